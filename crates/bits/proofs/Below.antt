@@ -1,0 +1,111 @@
+-- What the tests over the numbers below n say, and the places of a tabulated list.
+use mathlib.Core.Path.{_≡_, refl, ap, sym, _∙_}
+use mathlib.Core.Logic.{_⊎_, inl, inr, _≢_}
+use mathlib.Core.Bool.{Bool, true, false, _&&_}
+use Prim.Native.Nat.{ℕ, zero, suc, _<_, _≤_}
+use native.Mathlib.Omega.{arith}
+use lib.ListN.{length, getD}
+use Rattle.bits.specs.Below.{any-below, all-below, find-below, tabulate}
+use Rattle.bits.proofs.Booleans.{clash, and-left, and-right, and-intro, same-test, below-or-not}
+
+pub any-intro : (n : ℕ) (f : ℕ → Bool) (k : ℕ) → k < n → f k ≡ true → any-below n f ≡ true
+unfolding any-below
+any-intro zero f k l h = absurd (omega arith)
+any-intro (suc n) f k l h = go (λ (m : k < n). any-intro n f k m h) (f n) refl
+  where
+    go : (k < n → any-below n f ≡ true) → (b : Bool) → f n ≡ b → any-below (suc n) f ≡ true
+    go rec true e = rw (e, any-below)
+    go rec false e = let ne : k ≢ n = (λ q. clash h (ap f q ∙ e)) in rw (e, any-below) (rec (omega arith))
+
+pub any-elim : (n : ℕ) (f : ℕ → Bool) → any-below n f ≡ true → (k : ℕ) × (k < n) × (f k ≡ true)
+unfolding any-below
+any-elim zero f h = absurd (clash h refl)
+any-elim (suc n) f h = go (any-elim n f) (f n) refl
+  where
+    go : (any-below n f ≡ true → (k : ℕ) × (k < n) × (f k ≡ true)) → (b : Bool) → f n ≡ b → (k : ℕ) × (k < suc n) × (f k ≡ true)
+    go rec true e = (n, omega arith, e)
+    go rec false e = let (k, l, p) = rec (rw (e, any-below) at h) in (k, omega arith, p)
+
+-- two tests at once
+pub any-both-intro : (n : ℕ) (f g : ℕ → Bool) (k : ℕ) → k < n → f k ≡ true → g k ≡ true → any-below n (λ j. f j && g j) ≡ true
+any-both-intro n f g k l p q = any-intro n (λ j. f j && g j) k l (and-intro (f k) (g k) p q)
+
+pub any-both-elim : (n : ℕ) (f g : ℕ → Bool) → any-below n (λ j. f j && g j) ≡ true → (k : ℕ) × (k < n) × (f k ≡ true) × (g k ≡ true)
+any-both-elim n f g h =
+    let (k, l, p) = any-elim n (λ j. f j && g j) h in
+    (k, l, and-left (f k) (g k) p, and-right (f k) (g k) p)
+
+pub any-ext : (n : ℕ) (f g : ℕ → Bool) → ((k : ℕ) → f k ≡ g k) → any-below n f ≡ any-below n g
+any-ext n f g h =
+    same-test _ _ (λ p. let (k, l, q) = any-elim n f p in any-intro n g k l (sym (h k) ∙ q))
+    (λ p. let (k, l, q) = any-elim n g p in any-intro n f k l (h k ∙ q))
+
+pub all-intro : (n : ℕ) (f : ℕ → Bool) → ((k : ℕ) → k < n → f k ≡ true) → all-below n f ≡ true
+unfolding all-below
+all-intro zero f h = refl
+all-intro (suc n) f h = rw (h n (omega arith), all-below) (all-intro n f (λ k l. h k (omega arith)))
+
+pub all-elim : (n : ℕ) (f : ℕ → Bool) → all-below n f ≡ true → (k : ℕ) → k < n → f k ≡ true
+unfolding all-below
+all-elim zero f h k l = absurd (omega arith)
+all-elim (suc n) f h k l = go (all-elim n f) (f n) refl (below-or-not k n)
+  where
+    go : (all-below n f ≡ true → (j : ℕ) → j < n → f j ≡ true) → (b : Bool) → f n ≡ b → (k < n) ⊎ (n ≤ k) → f k ≡ true
+    go rec true e (inl m) = rec (rw (e, all-below) at h) k m
+    go rec true e (inr m) = let q : n ≡ k = omega arith in rw (← q) e
+    go rec false e m = absurd (clash (rw (e, all-below) at h) refl)
+
+-- what is found is below n, or is the number given
+pub find-cases : (n : ℕ) (f : ℕ → Bool) (d : ℕ) → (find-below n f d < n) ⊎ (find-below n f d ≡ d)
+unfolding find-below
+find-cases zero f d = inr refl
+find-cases (suc n) f d = go (find-cases n f d) (f n) refl
+  where
+    go : (find-below n f d < n) ⊎ (find-below n f d ≡ d) → (b : Bool) → f n ≡ b → (find-below (suc n) f d < suc n) ⊎ (find-below (suc n) f d ≡ d)
+    go x true e = inl (rw (e, find-below) (omega arith))
+    go (inl x) false e = inl (rw (e, find-below) (omega arith))
+    go (inr x) false e = inr (rw (e, find-below) x)
+
+-- where some number below n passes, the one found does
+pub find-finds : (n : ℕ) (f : ℕ → Bool) (d k : ℕ) → k < n → f k ≡ true → f (find-below n f d) ≡ true
+unfolding find-below
+find-finds zero f d k l h = absurd (omega arith)
+find-finds (suc n) f d k l h = go (λ (m : k < n). find-finds n f d k m h) (f n) refl
+  where
+    go : (k < n → f (find-below n f d) ≡ true) → (b : Bool) → f n ≡ b → f (find-below (suc n) f d) ≡ true
+    go rec true e = rw (e, find-below) e
+    go rec false e = let ne : k ≢ n = (λ q. clash h (ap f q ∙ e)) in rw (e, find-below) (rec (omega arith))
+
+-- a number found below n passes
+pub find-passes : (n : ℕ) (f : ℕ → Bool) (d : ℕ) → n ≤ d → find-below n f d < n → f (find-below n f d) ≡ true
+unfolding find-below
+find-passes zero f d l h = absurd (omega arith)
+find-passes (suc n) f d l h = go (λ (h' : find-below n f d < n). find-passes n f d (omega arith) h') (f n) refl
+  where
+    go : (find-below n f d < n → f (find-below n f d) ≡ true) → (b : Bool) → f n ≡ b → f (find-below (suc n) f d) ≡ true
+    go rec true e = rw (e, find-below) e
+    go rec false e = rw (e, find-below) (fin (find-cases n f d) (rw (e, find-below) at h))
+      where
+        fin : (find-below n f d < n) ⊎ (find-below n f d ≡ d) → find-below n f d < suc n → f (find-below n f d) ≡ true
+        fin (inl x) y = rec x
+        fin (inr x) y = absurd (omega arith)
+
+pub find-ext : (n : ℕ) (f g : ℕ → Bool) (d : ℕ) → ((k : ℕ) → f k ≡ g k) → find-below n f d ≡ find-below n g d
+unfolding find-below
+find-ext zero f g d h = refl
+find-ext (suc n) f g d h = go (find-ext n f g d h) (f n) refl
+  where
+    go : find-below n f d ≡ find-below n g d → (b : Bool) → f n ≡ b → find-below (suc n) f d ≡ find-below (suc n) g d
+    go rec true e = let e2 : g n ≡ true = sym (h n) ∙ e in rw (e, e2, find-below)
+    go rec false e = let e2 : g n ≡ false = sym (h n) ∙ e in rw (e, e2, find-below) rec
+
+pub length-tabulate : (n : ℕ) (f : ℕ → ℕ) → length (tabulate n f) ≡ n
+unfolding tabulate
+length-tabulate zero f = refl
+length-tabulate (suc n) f = ap suc (length-tabulate n (λ k. f (suc k)))
+
+pub getD-tabulate : (n : ℕ) (f : ℕ → ℕ) (k : ℕ) → k < n → getD (tabulate n f) k 0 ≡ f k
+unfolding tabulate
+getD-tabulate zero f k l = absurd (omega arith)
+getD-tabulate (suc n) f zero l = refl
+getD-tabulate (suc n) f (suc k) l = getD-tabulate n (λ j. f (suc j)) k (omega arith)

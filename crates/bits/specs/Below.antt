@@ -1,0 +1,24 @@
+-- Tests over the numbers below n, and lists given by their places. Each test stops where its answer is known, so closed cases compute.
+use mathlib.Core.Bool.{Bool, true, false}
+use mathlib.Core.List.{List, [], _∷_}
+use Prim.Native.Nat.{ℕ, zero, suc}
+
+-- some number below n passes
+unfoldable pub any-below : ℕ → (ℕ → Bool) → Bool
+any-below zero f = false
+any-below (suc n) f = elim (f n) [ true ↦ true | false ↦ any-below n f ]
+
+-- every number below n passes
+unfoldable pub all-below : ℕ → (ℕ → Bool) → Bool
+all-below zero f = true
+all-below (suc n) f = elim (f n) [ true ↦ all-below n f | false ↦ false ]
+
+-- the greatest number below n that passes, or d where none does
+unfoldable pub find-below : ℕ → (ℕ → Bool) → ℕ → ℕ
+find-below zero f d = d
+find-below (suc n) f d = elim (f n) [ true ↦ n | false ↦ find-below n f d ]
+
+-- the list of n numbers with f k at place k
+unfoldable pub tabulate : ℕ → (ℕ → ℕ) → List ℕ
+tabulate zero f = []
+tabulate (suc n) f = f 0 ∷ tabulate n (λ k. f (suc k))

@@ -1,0 +1,116 @@
+-- The law is kept: by a cut always, and by a put of facts that are numbered and supported, open no session twice and close no circle.
+use mathlib.Core.Path.{_≡_, refl, sym, _∙_, subst}
+use mathlib.Core.List.{List, [], _∷_}
+use mathlib.Core.Logic.{_⊎_, inl, inr}
+use mathlib.Core.Bool.{Bool, true, false}
+use Prim.Native.Nat.{ℕ, _<_}
+use Rattle.bits.proofs.Booleans.{clash}
+use Rattle.mtas.specs.Fact.{Fact, attached, opened, numbers, Below16}
+use Rattle.mtas.specs.Needs.{needs}
+use Rattle.mtas.specs.State.{State, nothing, put, cut}
+use Rattle.mtas.specs.Hierarchy.{Role, _#_, Reaches, Acyclic}
+use Rattle.mtas.specs.Law.{In, here, there, attachments, Lawful}
+use Rattle.mtas.proofs.Facts.{All, all-in, roots, roots-trans, in-one, put-new, put-old, put-cases, cut-old, cut-gone, cut-other}
+use Rattle.mtas.proofs.Hierarchy.{Numbered, fewer-acyclic, more-acyclic}
+
+-- starting is lawful
+pub nothing-lawful : Lawful nothing
+unfolding Acyclic
+nothing-lawful = record {
+  supported = λ f g h m. absurd (clash h refl);
+  numbered = λ f h. absurd (clash h refl);
+  one-user = λ i s u v h k. absurd (clash h refl);
+  acyclic = λ a b h p. clash h refl;
+}
+
+pub attachments-numbered : (st : State) → ((f : Fact) → st .stands f ≡ true → Below16 (numbers f)) → Numbered (attachments st)
+attachments-numbered st n a b h =
+    let t = n (attached (b .issuer) (b .number) (a .issuer) (a .number)) h in
+    (t .1 .1 .0, t .1 .1 .1 .0, t .0, t .1 .0)
+
+module _ (st : State) (L : Lawful st) where
+  -- what stands has its roots
+  pub rooted : (f g : Fact) → st .stands f ≡ true → In g (roots f) → st .stands g ≡ true
+  rooted f g h here = h
+  rooted f g h (there m) = L .supported f g h m
+
+  pub cut-lawful : (f : Fact) → Lawful (cut f st)
+  cut-lawful f = record {
+    supported = λ g n h m. support g n h m;
+    numbered = λ g h. L .numbered g (cut-old f st g h);
+    one-user = λ i s u v h k. L .one-user i s u v (cut-old f st (opened i s u) h) (cut-old f st (opened i s v) k);
+    acyclic = fewer-acyclic (λ a b h. cut-old f st (attached (b .issuer) (b .number) (a .issuer) (a .number)) h) (L .acyclic);
+  }
+    where
+      support : (g n : Fact) → (cut f st) .stands g ≡ true → In n (needs g) → (cut f st) .stands n ≡ true
+      support g n h m =
+          cut-other f st n (λ k. clash h (cut-gone f st g (roots-trans g (there m) k))) ∙ L .supported g n (cut-old f st g h) m
+
+  pub put-lawful : (l : List Fact)
+      → ((f g : Fact) → In f l → In g (needs f) → (put l st) .stands g ≡ true)
+      → ((f : Fact) → In f l → Below16 (numbers f))
+      → ((i s u v : ℕ) → In (opened i s u) l → (put l st) .stands (opened i s v) ≡ true → u ≡ v)
+      → Acyclic (attachments (put l st))
+      → Lawful (put l st)
+  put-lawful l sup num one ac = record {
+    supported = λ f g h m. support f g m (put-cases l st f h);
+    numbered = λ f h. small f (put-cases l st f h);
+    one-user = λ i s u v h k. only i s u v h k (put-cases l st (opened i s u) h) (put-cases l st (opened i s v) k);
+    acyclic = ac;
+  }
+    where
+      support : (f g : Fact) → In g (needs f) → (In f l) ⊎ (st .stands f ≡ true) → (put l st) .stands g ≡ true
+      support f g m (inl k) = sup f g k m
+      support f g m (inr k) = put-old l st g (L .supported f g k m)
+
+      small : (f : Fact) → (In f l) ⊎ (st .stands f ≡ true) → Below16 (numbers f)
+      small f (inl k) = num f k
+      small f (inr k) = L .numbered f k
+
+      only : (i s u v : ℕ) → (put l st) .stands (opened i s u) ≡ true → (put l st) .stands (opened i s v) ≡ true
+          → (In (opened i s u) l) ⊎ (st .stands (opened i s u) ≡ true) → (In (opened i s v) l) ⊎ (st .stands (opened i s v) ≡ true) → u ≡ v
+      only i s u v h k (inl x) y = one i s u v x k
+      only i s u v h k (inr x) (inl y) = sym (one i s v u y h)
+      only i s u v h k (inr x) (inr y) = L .one-user i s u v x y
+
+  -- one fact more
+  pub put-one-lawful : (f : Fact) → All (λ g. st .stands g ≡ true) (needs f) → Below16 (numbers f)
+      → ((i s u v : ℕ) → f ≡ opened i s u → st .stands (opened i s v) ≡ false)
+      → Acyclic (attachments (put (f ∷ []) st))
+      → Lawful (put (f ∷ []) st)
+  put-one-lawful f sup num one ac =
+      put-lawful (f ∷ [])
+      (λ g n k m. put-old (f ∷ []) st n (all-in (λ x. st .stands x ≡ true) sup (subst (λ x. In n (needs x)) (sym (in-one k)) m)))
+      (λ g k. subst (λ x. Below16 (numbers x)) (in-one k) num)
+      (λ i s u v k h. again i s u v (in-one k) (put-cases (f ∷ []) st (opened i s v) h))
+      ac
+    where
+      again : (i s u v : ℕ) → f ≡ opened i s u → (In (opened i s v) (f ∷ [])) ⊎ (st .stands (opened i s v) ≡ true) → u ≡ v
+      again i s u v e (inl k) = let q : f ≡ opened i s v = in-one k in cc
+      again i s u v e (inr k) = absurd (clash k (one i s u v e))
+
+  -- where no attachment is put, no circle closes
+  pub put-acyclic : (l : List Fact) → ((j q i r : ℕ) → In (attached j q i r) l → ⊥) → Acyclic (attachments (put l st))
+  put-acyclic l none =
+      fewer-acyclic (λ a b h. old a b (put-cases l st (attached (b .issuer) (b .number) (a .issuer) (a .number)) h)) (L .acyclic)
+    where
+      old : (a b : Role) → (In (attached (b .issuer) (b .number) (a .issuer) (a .number)) l) ⊎ (attachments st a b ≡ true) → attachments st a b ≡ true
+      old a b (inl k) = absurd (none (b .issuer) (b .number) (a .issuer) (a .number) k)
+      old a b (inr k) = k
+
+  -- where the junior doesn't reach the senior, an attachment closes none
+  pub attach-acyclic : (j q i r : ℕ) → (Reaches (attachments st) (j # q) (i # r) → ⊥) → Acyclic (attachments (put (attached j q i r ∷ []) st))
+  attach-acyclic j q i r clear =
+      more-acyclic (attachments st) (attachments (put (attached j q i r ∷ []) st)) (i # r) (j # q)
+      (λ a b h. new a b (put-cases (attached j q i r ∷ []) st (attached (b .issuer) (b .number) (a .issuer) (a .number)) h)) clear (L .acyclic)
+    where
+      new : (a b : Role) → (In (attached (b .issuer) (b .number) (a .issuer) (a .number)) (attached j q i r ∷ [])) ⊎ (attachments st a b ≡ true)
+          → (attachments st a b ≡ true) ⊎ ((a ≡ i # r) × (b ≡ j # q))
+      new a b (inr k) = inl k
+      new a b (inl k) =
+          let e : attached j q i r ≡ attached (b .issuer) (b .number) (a .issuer) (a .number) = in-one k in
+          let e0 : b .issuer ≡ j = cc in
+          let e1 : b .number ≡ q = cc in
+          let e2 : a .issuer ≡ i = cc in
+          let e3 : a .number ≡ r = cc in
+          inr ((λ t. e2 t # e3 t), (λ t. e0 t # e1 t))

@@ -1,0 +1,5 @@
+pub mod Facts
+pub mod Hierarchy
+pub mod Law
+pub mod Guards
+pub mod Step

@@ -1,0 +1,16 @@
+-- The twenty-one calls and their arguments (document 01, 'The call record'), named as in AMTAS's Table I, the sessions' as in the NIST RBAC standard.
+use Prim.Native.Nat.{ℕ}
+
+pub data Call : Type 0 where
+  AddIssuer RemoveIssuer : ℕ → Call  -- i: the operator enrols, strikes an issuer
+  AssignTrust RevokeTrust : ℕ → Call  -- j: give, withdraw trust
+  AddUser RemoveUser : ℕ → Call  -- u
+  AddRole RemoveRole : ℕ → Call  -- r
+  AddPerm RemovePerm : ℕ → Call  -- p
+  AssignUser RevokeUser : ℕ → ℕ → Call  -- u, r: give, take a role
+  AssignPerm RevokePerm : ℕ → ℕ → ℕ → Call  -- p, i, r: grant, ungrant own permission p to i#r
+  AssignRH RevokeRH : ℕ → ℕ → ℕ → Call  -- q, i, r: attach, detach own role q below i#r
+  CreateSession : ℕ → ℕ → Call  -- s, u: open session
+  DeleteSession : ℕ → Call  -- s: close session
+  AddActiveRole DropActiveRole : ℕ → ℕ → Call  -- s, r: activate, deactivate role
+  CheckAccess : ℕ → ℕ → ℕ → Call  -- p, i, s: may session i/s use own permission p

@@ -1,0 +1,27 @@
+-- The lawful states (document 01, 'Lawful means').
+use mathlib.Core.Path.{_≡_}
+use mathlib.Core.List.{List, [], _∷_}
+use mathlib.Core.Bool.{Bool, true, false}
+use Prim.Native.Nat.{ℕ}
+use Rattle.mtas.specs.Fact.{Fact, attached, opened, numbers, Below16}
+use Rattle.mtas.specs.Needs.{needs}
+use Rattle.mtas.specs.State.{State}
+use Rattle.mtas.specs.Hierarchy.{Role, Graph, Acyclic}
+
+pub data In (f : Fact) : List Fact → Type 0 where
+  here : {l : List Fact} → In f (f ∷ l)
+  there : {g : Fact} {l : List Fact} → In f l → In f (g ∷ l)
+
+-- the attachments that stand: is b directly below a
+abbrev pub attachments : State → Graph
+attachments st a b = st .stands (attached (b .issuer) (b .number) (a .issuer) (a .number))
+
+pub record Lawful (st : State) : Type 0 where
+  -- what stands has what it needs
+  pub supported : (f g : Fact) → st .stands f ≡ true → In g (needs f) → st .stands g ≡ true
+  -- issuers, and what each owns, are numbered 0 to 15
+  pub numbered : (f : Fact) → st .stands f ≡ true → Below16 (numbers f)
+  -- 'A session has one user'
+  pub one-user : (i s u v : ℕ) → st .stands (opened i s u) ≡ true → st .stands (opened i s v) ≡ true → u ≡ v
+  -- 'no role reaches itself by one or more attachments'
+  pub acyclic : Acyclic (attachments st)

@@ -1,0 +1,14 @@
+pub mod Fact
+pub mod Needs
+pub mod State
+pub mod Hierarchy
+pub mod Law
+pub mod Call
+pub mod Rule
+pub mod Answer
+pub mod Decision
+pub mod Layout
+pub mod LawTest
+pub mod Record
+pub mod Monitor
+pub mod Histories
