@@ -1,11 +1,10 @@
 -- Demand 2's 'if and only if': on a lawful state the test of kind 21 is true exactly where the session may use the permission.
-use mathlib.Core.Path.{_≡_, refl, ap, sym, _∙_, subst}
+use mathlib.Core.Path.{_≡_}
 use mathlib.Core.Logic.{_↔_}
-use mathlib.Core.Bool.{Bool, true, false, _&&_}
-use Prim.Native.Nat.{ℕ, _<_}
-use native.Mathlib.Omega.{arith}
+use mathlib.Core.Bool.{Bool, true, _&&_}
+use Prim.Native.Nat.{ℕ}
 use Rattle.bits.specs.Below.{any-below}
-use Rattle.bits.proofs.Below.{any-intro, any-elim, any-both-intro, any-both-elim, find-finds}
+use Rattle.bits.proofs.Below.{any-intro, any-elim, any-both-intro, any-both-elim}
 use Rattle.mtas.specs.Fact.{granted, opened, active}
 use Rattle.mtas.specs.State.{State, user-of}
 use Rattle.mtas.specs.Hierarchy.{Role, _#_, Reaches, reaches}
@@ -14,6 +13,7 @@ use Rattle.mtas.specs.Answer.{leads-to, may-use}
 use Rattle.mtas.specs.Decision.{MayUse}
 use Rattle.mtas.proofs.Hierarchy.{reaches-sound, reaches-complete}
 use Rattle.mtas.proofs.Law.{attachments-numbered}
+use Rattle.mtas.proofs.Sessions.{user-is}
 
 module _ (st : State) (j p : ℕ) where
   abbrev holds-it : ℕ → ℕ → Bool
@@ -38,12 +38,6 @@ module _ (st : State) (j p : ℕ) where
         (any-both-intro 16 (holds-it (b .issuer)) (is-reached-from a (b .issuer)) (b .number) (t .1 .1 .1 .0) g
         (reaches-complete (attachments st) (attachments-numbered st (L .numbered)) w))
 
-    -- an open session's user is the one that the table names
-    user-is : (i s u : ℕ) → st .stands (opened i s u) ≡ true → user-of st i s ≡ u
-    user-is i s u h =
-        L .one-user i s (user-of st i s) u
-        (find-finds 16 (λ v. st .stands (opened i s v)) 65535 u ((L .numbered (opened i s u) h) .1 .1 .0) h) h
-
     pub may-use-iff : (i s : ℕ) → (may-use st j p i s ≡ true) ↔ MayUse st j p i s
     unfolding may-use
     may-use-iff i s = (sound, complete)
@@ -61,9 +55,10 @@ module _ (st : State) (j p : ℕ) where
               is-reached = q;
               is-granted = g;
             }
+
         complete : MayUse st j p i s → any-below 16 (λ r. st .stands (active i s (user-of st i s) r) && leads-to st j p (i # r)) ≡ true
         complete m =
             any-both-intro 16 (λ r. st .stands (active i s (user-of st i s) r)) (λ r. leads-to st j p (i # r)) (m .its-role)
             ((L .numbered (active i s (m .its-user) (m .its-role)) (m .is-active)) .1 .1 .1 .0)
-            (rw (user-is i s (m .its-user) (m .is-open)) (m .is-active))
+            (rw (user-is st L i s (m .its-user) (m .is-open)) (m .is-active))
             (leads-to-complete (i # m .its-role) (m .holder) (m .is-reached) (m .is-granted))

@@ -1,21 +1,20 @@
 -- The unwinding's first half: an outsider's call changes nothing that the members or the operator control.
-use mathlib.Core.Path.{_≡_, refl, ap, sym, _∙_, subst}
-use mathlib.Core.List.{List, [], _∷_}
+use mathlib.Core.Path.{_≡_, refl, sym, _∙_, subst}
 use mathlib.Core.Logic.{_⊎_, inl, inr, _≢_}
 use mathlib.Core.Bool.{Bool, true, false}
 use Prim.Native.Nat.{ℕ}
 use lib.Dec.{eqb}
-use borrow.Author.Tests.{eq-eqb, eqb-true, eqb-false, ne-eqb, not-false}
+use borrow.Author.Tests.{eq-eqb, eqb-true, ne-eqb, not-false}
 use Rattle.bits.proofs.Booleans.{clash, untrue, same-test}
 use Rattle.mtas.specs.Fact.{Fact, enrolled, trusts, user, role, permission, holds, granted, attached, opened, active}
-use Rattle.mtas.specs.State.{State, nothing, put, cut, user-of}
+use Rattle.mtas.specs.State.{State, nothing, user-of}
 use Rattle.mtas.specs.Law.{In, here, there, Lawful}
 use Rattle.mtas.specs.Call.{Call, AddIssuer, RemoveIssuer, AssignTrust, RevokeTrust, AddUser, RemoveUser, AddRole, RemoveRole, AddPerm, RemovePerm, AssignUser, RevokeUser, AssignPerm, RevokePerm, AssignRH, RevokeRH, CreateSession, DeleteSession, AddActiveRole, DropActiveRole, CheckAccess}
 use Rattle.mtas.specs.Rule.{Effect, puts, cuts, decides, rule, guards, effect}
 use Rattle.mtas.specs.Answer.{Outcome, accepted, refused, outcome, change, after, next}
 use Rattle.mtas.proofs.Facts.{All, all-in, roots, put-old, put-cases, cut-old, cut-other}
 use Rattle.mtas.proofs.Law.{nothing-lawful}
-use Rattle.mtas.proofs.Guards.{Clear, clear}
+use Rattle.mtas.proofs.Guards.{Clear, passed}
 use Rattle.mtas.proofs.Step.{next-lawful}
 
 -- whose calls set a fact: the operator, 16, enrols, and so makes an issuer trust itself
@@ -133,11 +132,11 @@ module _ (inside : ℕ → Bool) (op : inside 16 ≡ true) where
     change-unseen c k (decides p i s) h w f o = refl
 
     pub outsider-unseen : (c : ℕ) (k : Call) → inside c ≡ false → Agree inside (next st c k) st
-    unfolding next outcome
+    unfolding next
     outsider-unseen c k h f o = go (outcome st c k) refl
       where
         go : (x : Outcome) → outcome st c k ≡ x → (after st (effect (rule (user-of st c) c k)) x) .stands f ≡ st .stands f
-        go accepted e = change-unseen c k (effect (rule (user-of st c) c k)) h (own st c k (clear st (guards c (rule (user-of st c) c k)) e)) f o
+        go accepted e = change-unseen c k (effect (rule (user-of st c) c k)) h (own st c k (passed st c k e)) f o
         go (refused n) e = refl
 
     -- no call but kind 3 brings trust across the edge
@@ -147,6 +146,7 @@ module _ (inside : ℕ → Bool) (op : inside 16 ≡ true) where
       where
         apart : o ≢ m
         apart e = clash hm (subst (λ x. inside x ≡ false) e ho)
+
         go : (In (trusts o m) l) ⊎ (st .stands (trusts o m) ≡ true) → ⊥
         go (inl x) =
             let y = all-in (λ f. (controller f ≡ c) × ((o' m' : ℕ) → f ≡ trusts o' m' → o' ≢ m' → k ≡ AssignTrust m')) w x in
@@ -156,11 +156,11 @@ module _ (inside : ℕ → Bool) (op : inside 16 ≡ true) where
     change-apart o m ho hm c k (decides p' i s) w n p = clash p (S .apart o m ho hm)
 
     pub next-secure : (c : ℕ) (k : Call) → Calm inside st c k → Secure inside (next st c k)
-    unfolding next outcome
+    unfolding next
     next-secure c k q = record { lawful = next-lawful st (S .lawful) c k; apart = λ o m ho hm. go o m ho hm (outcome st c k) refl }
       where
         go : (o m : ℕ) → inside o ≡ false → inside m ≡ true → (x : Outcome) → outcome st c k ≡ x → (after st (effect (rule (user-of st c) c k)) x) .stands (trusts o m) ≡ false
         go o m ho hm accepted e =
-            untrue _ (change-apart o m ho hm c k (effect (rule (user-of st c) c k)) (own st c k (clear st (guards c (rule (user-of st c) c k)) e))
+            untrue _ (change-apart o m ho hm c k (effect (rule (user-of st c) c k)) (own st c k (passed st c k e))
             (λ x y. q m y (subst (λ v. inside v ≡ false) (sym x) ho) hm e))
         go o m ho hm (refused n) e = S .apart o m ho hm

@@ -2,15 +2,15 @@
 use mathlib.Core.Path.{_≡_, refl, sym, _∙_, subst}
 use mathlib.Core.List.{List, [], _∷_}
 use mathlib.Core.Logic.{_⊎_, inl, inr}
-use mathlib.Core.Bool.{Bool, true, false}
-use Prim.Native.Nat.{ℕ, _<_}
+use mathlib.Core.Bool.{true, false}
+use Prim.Native.Nat.{ℕ}
 use Rattle.bits.proofs.Booleans.{clash}
 use Rattle.mtas.specs.Fact.{Fact, attached, opened, numbers, Below16}
 use Rattle.mtas.specs.Needs.{needs}
 use Rattle.mtas.specs.State.{State, nothing, put, cut}
 use Rattle.mtas.specs.Hierarchy.{Role, _#_, Reaches, Acyclic}
 use Rattle.mtas.specs.Law.{In, here, there, attachments, Lawful}
-use Rattle.mtas.proofs.Facts.{All, all-in, roots, roots-trans, in-one, put-new, put-old, put-cases, cut-old, cut-gone, cut-other}
+use Rattle.mtas.proofs.Facts.{All, all-in, roots, roots-trans, in-one, put-old, put-cases, cut-old, cut-gone, cut-other}
 use Rattle.mtas.proofs.Hierarchy.{Numbered, fewer-acyclic, more-acyclic}
 
 -- starting is lawful

@@ -1,11 +1,10 @@
 -- Every accepted call keeps the law, and a refused one leaves the state equal.
-use mathlib.Core.Path.{_≡_, refl, ap, sym, _∙_, subst}
+use mathlib.Core.Path.{_≡_, refl}
 use mathlib.Core.List.{List, [], _∷_}
-use mathlib.Core.Bool.{Bool, true, false}
+use mathlib.Core.Bool.{true, false}
 use Prim.Native.Nat.{ℕ}
 use native.Mathlib.Omega.{arith}
-use Rattle.bits.proofs.Booleans.{clash, untrue}
-use Rattle.bits.proofs.Below.{find-finds}
+use Rattle.bits.proofs.Booleans.{clash}
 use Rattle.mtas.specs.Fact.{Fact, enrolled, trusts, user, role, permission, holds, granted, attached, opened, active, numbers, above-15, Below16}
 use Rattle.mtas.specs.Needs.{needs, enrolment}
 use Rattle.mtas.specs.State.{State, put, user-of}
@@ -16,7 +15,8 @@ use Rattle.mtas.specs.Answer.{Outcome, accepted, refused, outcome, chang
 use Rattle.mtas.proofs.Facts.{All, all-in, in-one, put-new, below-16}
 use Rattle.mtas.proofs.Hierarchy.{reaches-complete}
 use Rattle.mtas.proofs.Law.{attachments-numbered, cut-lawful, put-lawful, put-one-lawful, put-acyclic, attach-acyclic}
-use Rattle.mtas.proofs.Guards.{Clear, clear}
+use Rattle.mtas.proofs.Sessions.{closed}
+use Rattle.mtas.proofs.Guards.{Clear, passed}
 
 pub differ : _≡_ {A = ℕ} 0 1 → ⊥
 differ z = omega arith
@@ -28,12 +28,6 @@ module _ (st : State) (L : Lawful st) where
   plain f sup num no-session no-link =
       put-one-lawful st L f sup num (λ i s u v e. absurd (differ (no-session i s u e)))
       (put-acyclic st L (f ∷ []) (λ j q i r m. differ (no-link j q i r (in-one m))))
-
-  -- a closed session is open for nobody
-  pub closed : (i s : ℕ) → st .stands (opened i s (user-of st i s)) ≡ false → (v : ℕ) → st .stands (opened i s v) ≡ false
-  closed i s h v =
-      untrue (st .stands (opened i s v))
-      (λ k. clash (find-finds 16 (λ u. st .stands (opened i s u)) 65535 v ((L .numbered (opened i s v) k) .1 .1 .0) k) h)
 
   trusts-itself : (i : ℕ) → st .stands (enrolled i) ≡ true → st .stands (trusts i i) ≡ true
   trusts-itself i h = L .supported (enrolled i) (trusts i i) h here
@@ -80,7 +74,7 @@ module _ (st : State) (L : Lawful st) where
   keeps c (RevokeRH q i r) g = cut-lawful st L (attached c q i r)
   keeps c (CreateSession s u) g =
       put-one-lawful st L (opened c s u) (search trusts-itself) (own c (s ∷ u ∷ []) (g .1 .0) (g .1 .1 .0))
-      (λ i t v w e. let e0 : c ≡ i = cc in let e1 : s ≡ t = cc in rw (← e0, ← e1) (closed c s (g .1 .1 .1 .1 .0) w))
+      (λ i t v w e. let e0 : c ≡ i = cc in let e1 : s ≡ t = cc in rw (← e0, ← e1) (closed st L c s (g .1 .1 .1 .1 .0) w))
       (put-acyclic st L (opened c s u ∷ []) (λ j q i r m. let n : opened c s u ≡ attached j q i r = in-one m in differ (cc)))
   keeps c (DeleteSession s) g = cut-lawful st L (opened c s (user-of st c s))
   keeps c (AddActiveRole s r) g =
@@ -93,12 +87,17 @@ module _ (st : State) (L : Lawful st) where
 
   -- every call, accepted or not
   pub next-lawful : (c : ℕ) (k : Call) → Lawful (next st c k)
-  unfolding next outcome
+  unfolding next
   next-lawful c k = go (outcome st c k) refl
     where
       go : (o : Outcome) → outcome st c k ≡ o → Lawful (after st (effect (rule (user-of st c) c k)) o)
-      go accepted e = keeps c k (clear st (guards c (rule (user-of st c) c k)) e)
+      go accepted e = keeps c k (passed st c k e)
       go (refused n) e = L
+
+-- an accepted call leaves its effect
+pub leaves : (st : State) (c : ℕ) (k : Call) → outcome st c k ≡ accepted → next st c k ≡ change (effect (rule (user-of st c) c k)) st
+unfolding next
+leaves st c k e = rw e
 
 -- a refused call answers its number with verdict 0, and leaves the state equal
 pub refused-answer : (st : State) (c : ℕ) (k : Call) (n : ℕ) → outcome st c k ≡ refused n → answer st c k ≡ record { refusal = n; verdict = 0 }

@@ -12,7 +12,7 @@ use Rattle.mtas.specs.State.{State, user-of}
 use Rattle.mtas.specs.Hierarchy.{Role, _#_, Reaches, itself, down, reaches}
 use Rattle.mtas.specs.Law.{here, there, attachments}
 use Rattle.mtas.specs.Call.{Call, AddIssuer, RemoveIssuer, AssignTrust, RevokeTrust, AddUser, RemoveUser, AddRole, RemoveRole, AddPerm, RemovePerm, AssignUser, RevokeUser, AssignPerm, RevokePerm, AssignRH, RevokeRH, CreateSession, DeleteSession, AddActiveRole, DropActiveRole, CheckAccess}
-use Rattle.mtas.specs.Rule.{Guard, absent, present, wrong, reached, applies, Effect, puts, cuts, decides, Rule, operator's, issuer's, rule, guards, effect}
+use Rattle.mtas.specs.Rule.{Guard, absent, present, reached, applies, Effect, puts, cuts, decides, Rule, operator's, issuer's, rule, guards, effect}
 use Rattle.mtas.specs.Answer.{Outcome, accepted, refused, first-cause, outcome, leads-to, may-use, verdict-of, change, reply, after, answer, next}
 use Rattle.mtas.proofs.Facts.{put-agree, cut-agree}
 use Rattle.mtas.proofs.Hierarchy.{reaches-sound, reaches-complete}
@@ -81,6 +81,7 @@ module _ (inside : ℕ → Bool) (op : inside 16 ≡ true) where
       where
         leads : State → ℕ → ℕ → Bool
         leads x i r = x .stands (granted j p i r) && reaches (attachments x) a (i # r)
+
         go : (i r : ℕ) (b : Bool) → st .stands (granted j p i r) ≡ b
             → (st .stands (granted j p i r) && reaches (attachments st) a (i # r)) ≡ (st' .stands (granted j p i r) && reaches (attachments st') a (i # r))
         go i r true e = let k = A (granted j p i r) h in let q = reaches-same a (i # r) (holder-inside st st' S S' A j p i r h e) in cc
@@ -92,6 +93,7 @@ module _ (inside : ℕ → Bool) (op : inside 16 ≡ true) where
       where
         never : (x : State) (u : ℕ) → ((r : ℕ) → leads-to x j p (i # r) ≡ true → ⊥) → any-below 16 (λ r. x .stands (active i s u r) && leads-to x j p (i # r)) ≡ false
         never x u n = untrue _ (λ d. let (r, l, a, w) = any-both-elim 16 (λ r. x .stands (active i s u r)) (λ r. leads-to x j p (i # r)) d in n r w)
+
         go : (b : Bool) → inside i ≡ b → may-use st j p i s ≡ may-use st' j p i s
         go true e =
             any-ext 16 (λ r. st .stands (active i s (user-of st i s) r) && leads-to st j p (i # r)) (λ r. st' .stands (active i s (user-of st' i s) r) && leads-to st' j p (i # r))

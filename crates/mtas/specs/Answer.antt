@@ -9,7 +9,7 @@ use Rattle.mtas.specs.State.{State, put, cut, user-of}
 use Rattle.mtas.specs.Hierarchy.{Role, _#_, reaches}
 use Rattle.mtas.specs.Law.{attachments}
 use Rattle.mtas.specs.Call.{Call}
-use Rattle.mtas.specs.Rule.{Guard, cause, applies, Effect, puts, cuts, decides, Rule, rule, guards, effect}
+use Rattle.mtas.specs.Rule.{Guard, cause, applies, Effect, puts, cuts, decides, rule, guards, effect}
 
 pub record Answer : Type 0 where
   pub refusal : ℕ

@@ -8,9 +8,9 @@ use Rattle.bits.specs.Bit.{bit}
 use Rattle.mtas.specs.Call.{AssignTrust}
 use Rattle.mtas.specs.Answer.{Answer}
 use Rattle.mtas.specs.Decision.{MayUse}
-use Rattle.mtas.specs.Layout.{Word, enrolled-issuers, trusted, users, roles, permissions, held, holders, seniors, session-user, active-roles, read, view}
+use Rattle.mtas.specs.Layout.{enrolled-issuers, trusted, users, roles, permissions, held, holders, seniors, session-user, active-roles, read, view}
 use Rattle.mtas.specs.Record.{request, decode, inside, remains}
-use Rattle.mtas.specs.Monitor.{Result, monitor, initial-words}
+use Rattle.mtas.specs.Monitor.{monitor, initial-words}
 
 -- 'a list of records, of any bytes'
 abbrev pub History : Type 0

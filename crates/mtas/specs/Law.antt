@@ -1,12 +1,12 @@
 -- The lawful states (document 01, 'Lawful means').
 use mathlib.Core.Path.{_≡_}
-use mathlib.Core.List.{List, [], _∷_}
-use mathlib.Core.Bool.{Bool, true, false}
+use mathlib.Core.List.{List, _∷_}
+use mathlib.Core.Bool.{true}
 use Prim.Native.Nat.{ℕ}
 use Rattle.mtas.specs.Fact.{Fact, attached, opened, numbers, Below16}
 use Rattle.mtas.specs.Needs.{needs}
 use Rattle.mtas.specs.State.{State}
-use Rattle.mtas.specs.Hierarchy.{Role, Graph, Acyclic}
+use Rattle.mtas.specs.Hierarchy.{Graph, Acyclic}
 
 pub data In (f : Fact) : List Fact → Type 0 where
   here : {l : List Fact} → In f (f ∷ l)

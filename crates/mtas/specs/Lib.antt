@@ -6,9 +6,12 @@ pub mod Law
 pub mod Call
 pub mod Rule
 pub mod Answer
-pub mod Decision
+pub mod Cascades
 pub mod Layout
 pub mod LawTest
 pub mod Record
 pub mod Monitor
+pub mod Decision
 pub mod Histories
+pub mod Journal
+pub mod Cases

@@ -1,6 +1,6 @@
 -- The reference monitor (document 01's desk) on words: starting, and a record played on a state.
-use mathlib.Core.List.{List, [], _∷_}
-use mathlib.Core.Bool.{Bool, true, false}
+use mathlib.Core.List.{List}
+use mathlib.Core.Bool.{true, false}
 use Prim.Native.Nat.{ℕ}
 use lib.Dec.{eqb}
 use lib.ListN.{length}
@@ -21,7 +21,7 @@ abbrev pub turned-down : ℕ → List ℕ → Result
 turned-down n ws = record { answer = record { refusal = n; verdict = 0 }; words = ws }
 
 -- 'Starting writes 65535 as each session's user and 0 elsewhere'
-abbrev initial : Word → ℕ
+abbrev pub initial : Word → ℕ
 initial enrolled-issuers = 0
 initial (trusted i) = 0
 initial (users i) = 0

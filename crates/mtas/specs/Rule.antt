@@ -1,6 +1,6 @@
 -- The table of the calls: whose each is, its arguments, the refusals 7 to 13 in order, and its effect (document 01, 'The call record', 'When a call is turned down').
 use mathlib.Core.List.{List, [], _∷_}
-use mathlib.Core.Bool.{Bool, true, false, not}
+use mathlib.Core.Bool.{Bool, not}
 use Prim.Native.Nat.{ℕ}
 use lib.Dec.{eqb, ltb}
 use Rattle.mtas.specs.Fact.{Fact, enrolled, trusts, user, role, permission, holds, granted, attached, opened, active, above-15}

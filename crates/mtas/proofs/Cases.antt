@@ -1,0 +1,101 @@
+-- Cases A to L, the further cases and document 01's journal: computed on states, and carried to words and bytes.
+use mathlib.Core.Path.{_≡_, refl, ap, sym, _∙_}
+use mathlib.Core.Logic.{_⊎_, inl, inr}
+use mathlib.Core.List.{List, [], _∷_}
+use mathlib.Core.Bool.{true, false, decide}
+use Prim.Native.Nat.{ℕ}
+use native.Mathlib.Decide.{ℕ-discrete}
+use Rattle.bits.specs.Below.{any-below, find-below}
+use Rattle.bits.proofs.Booleans.{clash}
+use Rattle.mtas.specs.Fact.{attached, opened, same, numbers, above-15}
+use Rattle.mtas.specs.Needs.{needs}
+use Rattle.mtas.specs.State.{State, nothing, listed, put, cut}
+use Rattle.mtas.specs.Hierarchy.{within}
+use Rattle.mtas.specs.Law.{In, here, there, Lawful}
+use Rattle.mtas.specs.Answer.{first-cause, outcome, leads-to, may-use, answer, next}
+use Rattle.mtas.specs.Layout.{encode}
+use Rattle.mtas.specs.Record.{decode}
+use Rattle.mtas.specs.Monitor.{answered, played}
+use Rattle.mtas.specs.Histories.{History, final}
+use Rattle.mtas.specs.Cases.{S-facts, S, Case, try, twelve-cases, further-cases, NoneStand, Holds, Every}
+use Rattle.mtas.proofs.Facts.{All, all-in, put-new, put-cases, below-16}
+use Rattle.mtas.proofs.Law.{nothing-lawful, put-lawful, put-acyclic}
+use Rattle.mtas.proofs.Step.{differ}
+use Rattle.mtas.proofs.Words.{view-encode}
+use Rattle.mtas.proofs.Monitor.{monitor-encode, played-lawful}
+
+-- each fact of S has what it needs in S
+S-supported : All (λ f. All (λ g. In g S-facts) (needs f)) S-facts
+S-supported = (search (here, there) depth 15, (search (here, there) depth 15, (search (here, there) depth 15, (search (here, there) depth 15, (search (here, there) depth 15, (search (here, there) depth 15, (search (here, there) depth 15, (search (here, there) depth 15, (search (here, there) depth 15, (search (here, there) depth 15, (search (here, there) depth 15, (search (here, there) depth 15, (search (here, there) depth 15, tt)))))))))))))
+
+-- the one open session is 0/4, for 0@3, and no role is attached
+S-plain : (i s u j q k r : ℕ) → All (λ f. (f ≡ opened i s u → u ≡ 3) × (f ≡ attached j q k r → _≡_ {A = ℕ} 0 1)) S-facts
+S-plain i s u j q k r = (((λ e. cc), λ e. cc), (((λ e. cc), λ e. cc), (((λ e. cc), λ e. cc), (((λ e. cc), λ e. cc), (((λ e. cc), λ e. cc), (((λ e. cc), λ e. cc), (((λ e. cc), λ e. cc), (((λ e. cc), λ e. cc), (((λ e. cc), λ e. cc), (((λ e. cc), λ e. cc), (((λ e. cc), λ e. cc), (((λ e. cc), λ e. cc), (((λ e. cc), λ e. cc), tt)))))))))))))
+
+S-session : (i s u : ℕ) → In (opened i s u) S-facts → u ≡ 3
+S-session i s u m = all-in (λ f. (f ≡ opened i s u → u ≡ 3) × (f ≡ attached 0 0 0 0 → _≡_ {A = ℕ} 0 1)) (S-plain i s u 0 0 0 0) m .0 refl
+
+S-unattached : (j q k r : ℕ) → In (attached j q k r) S-facts → ⊥
+S-unattached j q k r m =
+    differ (all-in (λ f. (f ≡ opened 0 0 0 → _≡_ {A = ℕ} 0 3) × (f ≡ attached j q k r → _≡_ {A = ℕ} 0 1)) (S-plain 0 0 0 j q k r) m .1 refl)
+
+S-numbered : All (λ f. above-15 (numbers f) ≡ false) S-facts
+S-numbered = (refl, (refl, (refl, (refl, (refl, (refl, (refl, (refl, (refl, (refl, (refl, (refl, (refl, tt)))))))))))))
+
+pub S-lawful : Lawful S
+S-lawful =
+    put-lawful nothing nothing-lawful S-facts
+    (λ f g m n. put-new S-facts nothing (all-in (λ x. In x S-facts) (all-in (λ x. All (λ y. In y S-facts) (needs x)) S-supported m) n))
+    (λ f m. below-16 (numbers f) (all-in (λ x. above-15 (numbers x) ≡ false) S-numbered m))
+    (λ i s u v m h. S-session i s u m ∙ sym (again i s v (put-cases S-facts nothing (opened i s v) h)))
+    (put-acyclic nothing nothing-lawful S-facts S-unattached)
+  where
+    again : (i s v : ℕ) → (In (opened i s v) S-facts) ⊎ (nothing .stands (opened i s v) ≡ true) → v ≡ 3
+    again i s v (inl m) = S-session i s v m
+    again i s v (inr h) = absurd (clash h refl)
+
+-- ---- a history on states
+unfoldable after-all : State → History → State
+after-all st [] = st
+after-all st (b ∷ h) = after-all (played st (decode b)) h
+
+after-lawful : (h : History) (st : State) → Lawful st → Lawful (after-all st h)
+unfolding after-all
+after-lawful [] st L = L
+after-lawful (b ∷ h) st L = after-lawful h (played st (decode b)) (played-lawful st L (decode b))
+
+final-is : (h : History) (st : State) → Lawful st → final (encode st) h ≡ encode (after-all st h)
+unfolding final after-all
+final-is [] st L = refl
+final-is (b ∷ h) st L = rw (monitor-encode st L b) (final-is h (played st (decode b)) (played-lawful st L (decode b)))
+
+abbrev OnStates : Case → Type 0
+OnStates (try earlier b refusal verdict gone) =
+    (answered (after-all S earlier) (decode b) ≡ record { refusal = refusal; verdict = verdict }) × NoneStand (after-all S earlier) gone
+
+carried : (c : Case) → OnStates c → Holds c
+carried (try earlier b refusal verdict gone) (a, n) =
+    let L = after-lawful earlier S S-lawful in
+    rw (final-is earlier S S-lawful) (ap (λ r. r .answer) (monitor-encode (after-all S earlier) L b) ∙ a, rw (view-encode (after-all S earlier) L) n)
+
+abbrev EveryOnStates : List Case → Type 0
+EveryOnStates [] = Unit
+EveryOnStates (c ∷ l) = OnStates c × EveryOnStates l
+
+every : (l : List Case) → EveryOnStates l → Every l
+every [] h = tt
+every (c ∷ l) h = (carried c (h .0), every l (h .1))
+
+twelve : EveryOnStates twelve-cases
+unfolding after-all decode answer next outcome first-cause leads-to may-use within put cut listed same decide ℕ-discrete any-below find-below
+twelve = ((refl, tt), ((refl, (refl, tt)), ((refl, tt), ((refl, tt), ((refl, tt), ((refl, tt), ((refl, (refl, (refl, tt))), ((refl, tt), ((refl, tt), ((refl, tt), ((refl, tt), ((refl, tt), tt))))))))))))
+
+pub twelve-hold : Every twelve-cases
+twelve-hold = every twelve-cases twelve
+
+further : EveryOnStates further-cases
+unfolding after-all decode answer next outcome first-cause leads-to may-use within put cut listed same decide ℕ-discrete any-below find-below
+further = ((refl, (refl, tt)), ((refl, (refl, tt)), ((refl, (refl, tt)), ((refl, (refl, tt)), ((refl, tt), ((refl, (refl, tt)), ((refl, (refl, (refl, (refl, tt)))), ((refl, tt), ((refl, tt), ((refl, tt), ((refl, tt), ((refl, tt), ((refl, tt), ((refl, tt), tt))))))))))))))
+
+pub further-hold : Every further-cases
+further-hold = every further-cases further

@@ -1,0 +1,95 @@
+-- The monitor on words is the table on the state that they say; a refusal hands the words back; verdict 1 is demand 2's.
+use mathlib.Core.Path.{_≡_, refl, ap, _∙_, fun-ext}
+use mathlib.Core.Logic.{_⊎_, inl, inr}
+use mathlib.Core.List.{List}
+use mathlib.Core.Bool.{Bool, true, false}
+use Prim.Native.Nat.{ℕ, suc}
+use lib.Dec.{eqb}
+use lib.ListN.{length}
+use borrow.Author.Tests.{eq-eqb}
+use Rattle.bits.specs.Below.{tabulate, find-below}
+use Rattle.bits.specs.Bit.{pack}
+use Rattle.mtas.specs.State.{State, nothing}
+use Rattle.mtas.specs.Law.{Lawful}
+use Rattle.mtas.specs.Call.{Call}
+use Rattle.mtas.specs.Answer.{Outcome, accepted, refused, outcome, answer, next}
+use Rattle.mtas.specs.Layout.{Word, enrolled-issuers, trusted, users, roles, permissions, held, holders, seniors, session-user, active-roles, state-length, word-at, contents, encode, view}
+use Rattle.mtas.specs.LawTest.{LawfulWords, lawful-words}
+use Rattle.mtas.specs.Record.{Request, undecodable, request, decode}
+use Rattle.mtas.specs.Monitor.{turned-down, initial, initial-words, answered, played, monitor}
+use Rattle.mtas.proofs.Law.{nothing-lawful}
+use Rattle.mtas.proofs.Step.{next-lawful, refused-equal}
+use Rattle.mtas.proofs.Words.{view-encode, encode-view, encode-lawful}
+use Rattle.mtas.proofs.LawTest.{lawful-words-sound, lawful-words-complete}
+
+-- starting writes the words of the state in which nothing stands
+initial-contents : (w : Word) → initial w ≡ contents nothing w
+unfolding pack find-below
+initial-contents enrolled-issuers = refl
+initial-contents (trusted i) = refl
+initial-contents (users i) = refl
+initial-contents (roles i) = refl
+initial-contents (permissions i) = refl
+initial-contents (held i u) = refl
+initial-contents (holders j p i) = refl
+initial-contents (seniors j q i) = refl
+initial-contents (session-user i s) = refl
+initial-contents (active-roles i s) = refl
+
+pub initial-is-nothing : initial-words ≡ encode nothing
+unfolding initial-words encode
+initial-is-nothing = ap (tabulate state-length) (fun-ext (λ k. initial-contents (word-at k)))
+
+pub initial-lawful : LawfulWords initial-words
+initial-lawful = rw initial-is-nothing (encode-lawful nothing nothing-lawful)
+
+pub played-lawful : (st : State) → Lawful st → (x : Request) → Lawful (played st x)
+played-lawful st L undecodable = L
+played-lawful st L (request c k) = next-lawful st L c k
+
+-- the monitor on lawful words, and on the words of a lawful state
+pub monitor-lawful : (ws b : List ℕ) → LawfulWords ws → monitor ws b ≡ record { answer = answered (view ws) (decode b); words = encode (played (view ws) (decode b)) }
+unfolding monitor
+monitor-lawful ws b W =
+    let l : eqb (length ws) state-length ≡ true = eq-eqb _ _ (W .long) in
+    let j : lawful-words ws ≡ true = lawful-words-complete ws W in
+    rw (l, j, monitor)
+
+pub monitor-encode : (st : State) → Lawful st → (b : List ℕ) → monitor (encode st) b ≡ record { answer = answered st (decode b); words = encode (played st (decode b)) }
+monitor-encode st L b =
+    monitor-lawful (encode st) b (encode-lawful st L)
+    ∙ ap (λ x. record { answer = answered x (decode b); words = encode (played x (decode b)) }) (view-encode st L)
+
+-- every other word list is turned down
+pub monitor-cases : (ws b : List ℕ) → (LawfulWords ws) ⊎ ((n : ℕ) × (monitor ws b ≡ turned-down (suc n) ws))
+unfolding monitor
+monitor-cases ws b = go (eqb (length ws) state-length) refl (lawful-words ws) refl
+  where
+    go : (x : Bool) → eqb (length ws) state-length ≡ x → (y : Bool) → lawful-words ws ≡ y → (LawfulWords ws) ⊎ ((n : ℕ) × (monitor ws b ≡ turned-down (suc n) ws))
+    go false e y d = inr (0, rw (e, monitor))
+    go true e false d = inr (1, rw (e, d, monitor))
+    go true e true d = inl (lawful-words-sound ws d)
+
+pub accepted-zero : (st : State) (c : ℕ) (k : Call) → outcome st c k ≡ accepted → answer st c k .refusal ≡ 0
+unfolding answer
+accepted-zero st c k e = rw e
+
+-- demand 1: 'Only an accepted call alters the state; a refused one hands it back exactly'
+pub refused-words : (ws b : List ℕ) → ((monitor ws b) .answer .refusal ≡ 0 → ⊥) → (monitor ws b) .words ≡ ws
+refused-words ws b h = go (monitor-cases ws b)
+  where
+    back : (x : Request) → LawfulWords ws → (answered (view ws) x .refusal ≡ 0 → ⊥) → encode (played (view ws) x) ≡ ws
+    back undecodable W n = encode-view ws W
+    back (request c k) W n = by (outcome (view ws) c k) refl
+      where
+        by : (o : Outcome) → outcome (view ws) c k ≡ o → encode (next (view ws) c k) ≡ ws
+        by accepted e = absurd (n (accepted-zero (view ws) c k e))
+        by (refused m) e = rw (refused-equal (view ws) c k m e) (encode-view ws W)
+
+    go : (LawfulWords ws) ⊎ ((n : ℕ) × (monitor ws b ≡ turned-down (suc n) ws)) → (monitor ws b) .words ≡ ws
+    go (inl W) = ap (λ r. r .words) (monitor-lawful ws b W) ∙ back (decode b) W (rw (monitor-lawful ws b W) at h)
+    go (inr (n, e)) = ap (λ r. r .words) e
+
+-- what the monitor leaves of lawful words is lawful
+pub monitor-keeps : (ws b : List ℕ) → LawfulWords ws → LawfulWords ((monitor ws b) .words)
+monitor-keeps ws b W = rw (monitor-lawful ws b W) (encode-lawful _ (played-lawful (view ws) (W .lawful) (decode b)))

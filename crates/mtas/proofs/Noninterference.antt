@@ -1,0 +1,195 @@
+-- Demand 3, on whole lists of byte records played on words: each history agrees with its purge, so two with one purge agree.
+use mathlib.Core.Path.{_≡_, refl, ap, ap₂, sym, _∙_, subst}
+use mathlib.Core.Logic.{_↔_, _⊎_, inl, inr}
+use mathlib.Core.List.{List, [], _∷_}
+use mathlib.Core.Bool.{Bool, true, false, _&&_}
+use Prim.Native.Nat.{ℕ, _<_}
+use native.Mathlib.Omega.{arith}
+use lib.Dec.{eqb, ltb}
+use borrow.Author.Tests.{eqb-true, lt-ltb}
+use Rattle.bits.specs.Bit.{bit}
+use Rattle.bits.proofs.Booleans.{clash, and-right, and-intro, or-cases, or-right}
+use Rattle.bits.proofs.Bit.{bit-pack, pack-ext}
+use Rattle.mtas.specs.Fact.{Fact, enrolled, trusts, user, role, permission, holds, granted, attached, active, Below16}
+use Rattle.mtas.specs.State.{State, nothing, user-of}
+use Rattle.mtas.specs.Law.{Lawful}
+use Rattle.mtas.specs.Call.{Call, AssignTrust}
+use Rattle.mtas.specs.Rule.{rule, guards}
+use Rattle.mtas.specs.Answer.{accepted, outcome, answer}
+use Rattle.mtas.specs.Decision.{MayUse}
+use Rattle.mtas.specs.Layout.{Word, enrolled-issuers, trusted, users, roles, permissions, held, holders, seniors, session-user, active-roles, packed, contents, encode, read, view}
+use Rattle.mtas.specs.Record.{Request, undecodable, request, decode, inside, remains}
+use Rattle.mtas.specs.Monitor.{initial-words, answered, played, monitor}
+use Rattle.mtas.specs.Histories.{History, final, purge, answers, TrustRefused, NoTrustIn, SameInName, Noninterference}
+use Rattle.mtas.proofs.Facts.{below-16}
+use Rattle.mtas.proofs.Guards.{Clear, passed}
+use Rattle.mtas.proofs.Decision.{may-use-iff}
+use Rattle.mtas.proofs.Address.{word-numbers}
+use Rattle.mtas.proofs.Words.{read-encode, view-encode}
+use Rattle.mtas.proofs.Monitor.{initial-is-nothing, monitor-encode, accepted-zero}
+use Rattle.mtas.proofs.Isolation.{controller, Secure, nothing-secure, Agree, Calm, trust-inside, outsider-unseen, next-secure}
+use Rattle.mtas.proofs.Unwinding.{user-same, may-use-same, answer-same, next-agrees}
+
+module _ (member : ℕ → Bool) where
+  abbrev ins : ℕ → Bool
+  ins = inside member
+
+  -- the premise on answers is the one on outcomes
+  calm : (st : State) → Lawful st → (b : List ℕ) → TrustRefused member (encode st) b → (c : ℕ) (k : Call) → decode b ≡ request c k → Calm ins st c k
+  calm st L b q c k d j e ho hj a = go (below-16 (j ∷ []) (g .1 .1 .0) .0) (or-cases (eqb j 16) (ltb j 16 && member j) hj)
+    where
+      a' : outcome st c (AssignTrust j) ≡ accepted
+      a' = subst (λ x. outcome st c x ≡ accepted) e a
+
+      g : Clear st (guards c (rule (user-of st c) c (AssignTrust j)))
+      g = passed st c (AssignTrust j) a'
+
+      told : ((monitor (encode st) b) .answer) .refusal ≡ 0
+      told = ap (λ r. r .answer .refusal) (monitor-encode st L b) ∙ ap (λ x. answered st x .refusal) d ∙ accepted-zero st c k a
+
+      go : j < 16 → (eqb j 16 ≡ true) ⊎ ((ltb j 16 && member j) ≡ true) → ⊥
+      go l (inl x) = let y = eqb-true j 16 x in omega arith
+      go l (inr x) = q c j (d ∙ ap (request c) e) ho l (and-right (ltb j 16) (member j) x) told
+
+  -- what a history and another have in common when played on two words
+  record Twins (ws vs : List ℕ) (h g : History) : Type 0 where
+    same-answers : answers member ws h ≡ answers member vs g
+    left : State
+    right : State
+    left-is : final ws h ≡ encode left
+    right-is : final vs g ≡ encode right
+    left-secure : Secure ins left
+    right-secure : Secure ins right
+    agree : Agree ins left right
+
+  -- one record: outsiders' change nothing seen, those inside are answered alike
+  module _ (st st' : State) (S : Secure ins st) (S' : Secure ins st') (A : Agree ins st st') (b : List ℕ) where
+    abbrev Goes : Request → Request → Type 0
+    Goes x y = Secure ins (played st x) × Secure ins (played st' y) × Agree ins (played st x) (played st' y)
+
+    inside-step : (x : Request) → remains member x ≡ true → ((c : ℕ) (k : Call) → x ≡ request c k → Calm ins st c k) → (answered st x ≡ answered st' x) × Goes x x
+    inside-step undecodable r q = absurd (clash r refl)
+    inside-step (request c k) r q = (
+      answer-same ins refl st st' S S' A c k r,
+      (next-secure ins refl st S c k (q c k refl), next-secure ins refl st' S' c k (λ j e ho. absurd (clash r ho)), next-agrees ins refl st st' S S' A c k r),
+    )
+
+    outside-step : (x : Request) → remains member x ≡ false → ((c : ℕ) (k : Call) → x ≡ request c k → Calm ins st c k) → Goes x undecodable
+    outside-step undecodable r q = (S, S', A)
+    outside-step (request c k) r q = (next-secure ins refl st S c k (q c k refl), S', λ f o. outsider-unseen ins refl st S c k r f o ∙ A f o)
+
+  twins : (h : History) (st st' : State) → Secure ins st → Secure ins st' → Agree ins st st' → NoTrustIn member (encode st) h → Twins (encode st) (encode st') h (purge member h)
+  unfolding final purge answers
+  twins [] st st' S S' A q = record {
+    same-answers = refl;
+    left = st;
+    right = st';
+    left-is = refl;
+    right-is = refl;
+    left-secure = S;
+    right-secure = S';
+    agree = A;
+  }
+  twins (b ∷ h) st st' S S' A q = go (twins h) (remains member (decode b)) refl
+    where
+      m : monitor (encode st) b ≡ record { answer = answered st (decode b); words = encode (played st (decode b)) }
+      m = monitor-encode st (S .lawful) b
+
+      m' : monitor (encode st') b ≡ record { answer = answered st' (decode b); words = encode (played st' (decode b)) }
+      m' = monitor-encode st' (S' .lawful) b
+
+      q' : NoTrustIn member (encode (played st (decode b))) h
+      q' = rw m at (q .1)
+
+      go : ((x x' : State) → Secure ins x → Secure ins x' → Agree ins x x' → NoTrustIn member (encode x) h → Twins (encode x) (encode x') h (purge member h))
+          → (r : Bool) → remains member (decode b) ≡ r → Twins (encode st) (encode st') (b ∷ h) (purge member (b ∷ h))
+      go rec true e =
+          let s = inside-step st st' S S' A b (decode b) e (calm st (S .lawful) b (q .0)) in
+          let t : Twins (encode (played st (decode b))) (encode (played st' (decode b))) h (purge member h) = rec (played st (decode b)) (played st' (decode b)) (s .1 .0) (s .1 .1) (s .1 .2) q' in
+          rw (e, purge) (record {
+            same-answers = rw (e, answers) (rw (m, m') (ap₂ _∷_ (s .0) (t .same-answers)));
+            left = t .left;
+            right = t .right;
+            left-is = rw m (t .left-is);
+            right-is = rw m' (t .right-is);
+            left-secure = t .left-secure;
+            right-secure = t .right-secure;
+            agree = t .agree;
+          })
+      go rec false e =
+          let s = outside-step st st' S S' A b (decode b) e (calm st (S .lawful) b (q .0)) in
+          let t : Twins (encode (played st (decode b))) (encode st') h (purge member h) = rec (played st (decode b)) st' (s .0) S' (s .2) q' in
+          rw (e, purge) (record {
+            same-answers = rw (e, answers) (rw m (t .same-answers));
+            left = t .left;
+            right = t .right;
+            left-is = rw m (t .left-is);
+            right-is = t .right-is;
+            left-secure = t .left-secure;
+            right-secure = t .right-secure;
+            agree = t .agree;
+          })
+
+  -- agreement, word by word
+  module _ (st st' : State) (S : Secure ins st) (S' : Secure ins st') (A : Agree ins st st') (j : ℕ) (l : j < 16) (i : ins j ≡ true) where
+    reads : (w : Word) → Below16 (word-numbers w) → contents st w ≡ contents st' w → read (encode st) w ≡ read (encode st') w
+    reads w n e = read-encode st w n ∙ e ∙ sym (read-encode st' w n)
+
+    packs : (f : ℕ → Fact) → ((n : ℕ) → ins (controller (f n)) ≡ true) → packed st f ≡ packed st' f
+    packs f o = pack-ext 16 (λ n. st .stands (f n)) (λ n. st' .stands (f n)) (λ n _. A (f n) (o n))
+
+    users-same : (s : ℕ) → user-of st j s ≡ user-of st' j s
+    users-same s = user-same ins refl st st' S S' A j s i
+
+    same-in-name : SameInName j (encode st) (encode st')
+    same-in-name = record {
+      enrolled-bit =
+          ap (λ x. bit x j) (read-encode st enrolled-issuers tt) ∙ bit-pack 16 (λ n. st .stands (enrolled n)) j l ∙ A (enrolled j) refl
+          ∙ sym (ap (λ x. bit x j) (read-encode st' enrolled-issuers tt) ∙ bit-pack 16 (λ n. st' .stands (enrolled n)) j l);
+      trust-word = reads (trusted j) (l, tt) (packs (trusts j) (λ n. trust-inside ins refl j n i));
+      users-word = reads (users j) (l, tt) (packs (user j) (λ n. i));
+      roles-word = reads (roles j) (l, tt) (packs (role j) (λ n. i));
+      permissions-word = reads (permissions j) (l, tt) (packs (permission j) (λ n. i));
+      held-words = λ u lu. reads (held j u) (l, (lu, tt)) (packs (holds j u) (λ n. i));
+      session-users = λ s ls. reads (session-user j s) (l, (ls, tt)) (users-same s);
+      session-roles = λ s ls. reads (active-roles j s) (l, (ls, tt)) (packs (active j s (user-of st j s)) (λ n. i) ∙ ap (λ u. packed st' (active j s u)) (users-same s));
+      permission-words = λ p k lp lk. reads (holders j p k) (l, (lp, (lk, tt))) (packs (granted j p k) (λ n. i));
+      role-words = λ q k lq lk. reads (seniors j q k) (l, (lq, (lk, tt))) (packs (attached j q k) (λ n. i));
+    }
+
+  -- a member is inside
+  member-inside : (j : ℕ) → j < 16 → member j ≡ true → ins j ≡ true
+  member-inside j l h = or-right (eqb j 16) (ltb j 16 && member j) (and-intro (ltb j 16) (member j) (lt-ltb j 16 l) h)
+
+pub noninterference : Noninterference
+noninterference member h₁ h₂ e q₁ q₂ = record {
+  same-answers = rw n (t₁ .same-answers ∙ ap (answers member (encode nothing)) e ∙ sym (t₂ .same-answers));
+  same-words = λ j l m. rw (n, t₁ .left-is, t₂ .left-is) (same-in-name member (t₁ .left) (t₂ .left) (t₁ .left-secure) (t₂ .left-secure) agree j l (member-inside member j l m));
+  same-decisions = λ j p i s l m. rw (n, t₁ .left-is, t₂ .left-is, view-encode (t₁ .left) (t₁ .left-secure .lawful), view-encode (t₂ .left) (t₂ .left-secure .lawful)) (decided j p i s (member-inside member j l m));
+}
+  where
+    n : initial-words ≡ encode nothing
+    n = initial-is-nothing
+
+    t₁ : Twins member (encode nothing) (encode nothing) h₁ (purge member h₁)
+    t₁ = twins member h₁ nothing nothing (nothing-secure (inside member)) (nothing-secure (inside member)) (λ f o. refl) (rw n at q₁)
+
+    t₂ : Twins member (encode nothing) (encode nothing) h₂ (purge member h₂)
+    t₂ = twins member h₂ nothing nothing (nothing-secure (inside member)) (nothing-secure (inside member)) (λ f o. refl) (rw n at q₂)
+
+    -- one purge, one state at its end
+    purged : t₁ .right ≡ t₂ .right
+    purged =
+        sym (view-encode (t₁ .right) (t₁ .right-secure .lawful))
+        ∙ ap view (sym (t₁ .right-is) ∙ ap (final (encode nothing)) e ∙ t₂ .right-is)
+        ∙ view-encode (t₂ .right) (t₂ .right-secure .lawful)
+
+    agree : Agree (inside member) (t₁ .left) (t₂ .left)
+    agree f o = t₁ .agree f o ∙ ap (λ x. x .stands f) purged ∙ sym (t₂ .agree f o)
+
+    decided : (j p i s : ℕ) → inside member j ≡ true → MayUse (t₁ .left) j p i s ↔ MayUse (t₂ .left) j p i s
+    decided j p i s m =
+        let a = may-use-iff (t₁ .left) j p (t₁ .left-secure .lawful) i s in
+        let b = may-use-iff (t₂ .left) j p (t₂ .left-secure .lawful) i s in
+        let d = may-use-same (inside member) refl (t₁ .left) (t₂ .left) (t₁ .left-secure) (t₂ .left-secure) agree j p i s m in
+        (λ x. b .0 (sym d ∙ a .1 x), λ x. a .0 (d ∙ b .1 x))

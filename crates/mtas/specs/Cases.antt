@@ -1,0 +1,120 @@
+-- Document 01's twelve press-house cases, as one table and one statement; and further cases that a wrong walk or cascade would fail.
+use mathlib.Core.Path.{_≡_}
+use mathlib.Core.List.{List, [], _∷_, _++_}
+use mathlib.Core.Bool.{false}
+use Prim.Native.Nat.{ℕ, _+_, _<_}
+use lib.ListN.{length}
+use Rattle.mtas.specs.Fact.{Fact, enrolled, trusts, user, role, permission, holds, granted, attached, opened, active}
+use Rattle.mtas.specs.State.{State, nothing, put}
+use Rattle.mtas.specs.Layout.{encode, view}
+use Rattle.mtas.specs.Monitor.{monitor}
+use Rattle.mtas.specs.Histories.{History, final}
+use Rattle.mtas.specs.Journal.{Line, played, end, broken, long, output}
+
+-- 'issuers 0 and 1 are enrolled, 0 trusts 1, 0@3 holds 0#2, 0#3 is present and unheld, 0/4 is open for 0@3 with role 2 active, and 1%5 is granted to 0#2; nothing else'
+abbrev pub S-facts : List Fact
+S-facts =
+    enrolled 0 ∷ enrolled 1 ∷ trusts 0 0 ∷ trusts 1 1 ∷ trusts 0 1
+    ∷ user 0 3 ∷ role 0 2 ∷ holds 0 3 2 ∷ role 0 3
+    ∷ opened 0 4 3 ∷ active 0 4 3 2 ∷ permission 1 5 ∷ granted 1 5 0 2 ∷ []
+
+abbrev pub S : State
+S = put S-facts nothing
+
+-- the record of a kind, a caller and arguments
+abbrev pub record-of : ℕ → ℕ → List ℕ → List ℕ
+record-of kind caller args = (5 + length args) ∷ 0 ∷ kind ∷ 0 ∷ caller ∷ args
+
+-- records played from S, the record tried then, its answer, and facts that don't stand then
+pub data Case : Type 0 where
+  try : History → List ℕ → ℕ → ℕ → List Fact → Case
+
+abbrev pub twelve-cases : List Case
+twelve-cases =
+    try [] (record-of 21 1 (5 ∷ 0 ∷ 4 ∷ [])) 0 1 []  -- A
+    ∷ try (record-of 4 0 (1 ∷ []) ∷ []) (record-of 21 1 (5 ∷ 0 ∷ 4 ∷ [])) 0 0 (granted 1 5 0 2 ∷ [])  -- B
+    ∷ try (record-of 20 0 (4 ∷ 2 ∷ []) ∷ []) (record-of 21 1 (5 ∷ 0 ∷ 4 ∷ [])) 0 0 []  -- C
+    ∷ try [] (record-of 21 1 (6 ∷ 0 ∷ 4 ∷ [])) 10 0 []  -- D
+    ∷ try [] (record-of 21 1 (5 ∷ 0 ∷ 5 ∷ [])) 0 0 []  -- E
+    ∷ try [] (record-of 13 1 (5 ∷ 0 ∷ 7 ∷ [])) 10 0 []  -- F
+    ∷ try [] (record-of 13 0 (0 ∷ 1 ∷ 0 ∷ [])) 9 0 (permission 0 0 ∷ role 1 0 ∷ [])  -- G
+    ∷ try [] (record-of 15 0 (2 ∷ 0 ∷ 2 ∷ [])) 13 0 []  -- H
+    ∷ try [] (record-of 3 0 (0 ∷ [])) 8 0 []  -- I
+    ∷ try [] (record-of 3 0 (16 ∷ [])) 6 0 []  -- J
+    ∷ try [] (record-of 1 16 (0 ∷ [])) 7 0 []  -- K
+    ∷ try [] (record-of 19 0 (4 ∷ 3 ∷ [])) 11 0 []  -- L
+    ∷ []
+
+-- Two links across two estates: 0#3 is attached below 0#2 and 1#6 below 0#3, 1%5 is granted to 1#6 in place of 0#2.
+abbrev pub two-links : History
+two-links =
+    record-of 15 0 (3 ∷ 0 ∷ 2 ∷ []) ∷ record-of 7 1 (6 ∷ []) ∷ record-of 15 1 (6 ∷ 0 ∷ 3 ∷ [])
+    ∷ record-of 13 1 (5 ∷ 1 ∷ 6 ∷ []) ∷ record-of 14 1 (5 ∷ 0 ∷ 2 ∷ []) ∷ []
+
+-- the same, and one record more
+abbrev pub two-links-and : List ℕ → History
+two-links-and b = two-links ++ (b ∷ [])
+
+abbrev pub further-cases : List Case
+further-cases =
+    -- 'Stopping after one attachment'
+    try two-links (record-of 21 1 (5 ∷ 0 ∷ 4 ∷ [])) 0 1 (granted 1 5 0 2 ∷ [])
+    -- the lower link goes, then the upper: nothing is reached
+    ∷ try (two-links-and (record-of 16 1 (6 ∷ 0 ∷ 3 ∷ []))) (record-of 21 1 (5 ∷ 0 ∷ 4 ∷ [])) 0 0 (attached 1 6 0 3 ∷ [])
+    ∷ try (two-links-and (record-of 16 0 (3 ∷ 0 ∷ 2 ∷ []))) (record-of 21 1 (5 ∷ 0 ∷ 4 ∷ [])) 0 0 (attached 0 3 0 2 ∷ [])
+    -- 'Clearing grants on withdrawal and forgetting attachments'
+    ∷ try (two-links-and (record-of 4 0 (1 ∷ []))) (record-of 21 1 (5 ∷ 0 ∷ 4 ∷ [])) 0 0 (attached 1 6 0 3 ∷ [])
+    -- 'Following trust in place of attachments': 1#6 holds 1%5 and 0 trusts 1, but no attachment leads there
+    ∷ try (record-of 7 1 (6 ∷ []) ∷ record-of 13 1 (5 ∷ 1 ∷ 6 ∷ []) ∷ record-of 14 1 (5 ∷ 0 ∷ 2 ∷ []) ∷ []) (record-of 21 1 (5 ∷ 0 ∷ 4 ∷ [])) 0 0 []
+    -- a circle over one link
+    ∷ try (record-of 15 0 (3 ∷ 0 ∷ 2 ∷ []) ∷ []) (record-of 15 0 (2 ∷ 0 ∷ 3 ∷ [])) 13 0 (attached 0 2 0 3 ∷ [])
+    -- striking takes the roles in others' words
+    ∷ try (two-links-and (record-of 2 16 (1 ∷ []))) (record-of 21 1 (5 ∷ 0 ∷ 4 ∷ [])) 5 0 (attached 1 6 0 3 ∷ granted 1 5 1 6 ∷ trusts 0 1 ∷ [])
+    -- refusal 3's row: the empty record, a length field too large, kinds 22 and 257, an argument too few
+    ∷ try [] [] 3 0 []
+    ∷ try [] (7 ∷ 0 ∷ 3 ∷ 0 ∷ 0 ∷ 1 ∷ []) 3 0 []
+    ∷ try [] (record-of 22 0 (1 ∷ [])) 3 0 []
+    ∷ try [] (6 ∷ 0 ∷ 1 ∷ 1 ∷ 16 ∷ 2 ∷ []) 3 0 []
+    ∷ try [] (record-of 21 1 (5 ∷ 0 ∷ [])) 3 0 []
+    -- refusal 4 before 5 and 6
+    ∷ try [] (record-of 3 17 (16 ∷ [])) 4 0 []
+    ∷ try [] (record-of 3 2 (16 ∷ [])) 5 0 []
+    ∷ []
+
+abbrev pub NoneStand : State → List Fact → Type 0
+NoneStand st [] = Unit
+NoneStand st (f ∷ l) = (st .stands f ≡ false) × NoneStand st l
+
+-- the monitor's answer on words, and what the words say then
+abbrev pub Holds : Case → Type 0
+Holds (try earlier b refusal verdict gone) =
+    ((monitor (final (encode S) earlier) b) .answer ≡ record { refusal = refusal; verdict = verdict }) × NoneStand (view (final (encode S) earlier)) gone
+
+abbrev pub Every : List Case → Type 0
+Every [] = Unit
+Every (c ∷ l) = Holds c × Every l
+
+-- document 01's journal, and what it prints
+abbrev pub example-journal : List ℕ
+example-journal =
+    6 ∷ 0 ∷ 1 ∷ 0 ∷ 16 ∷ 0 ∷ 6 ∷ 0 ∷ 1 ∷ 0 ∷ 16 ∷ 1 ∷ 6 ∷ 0 ∷ 7 ∷ 0 ∷ 0 ∷ 2 ∷ 8 ∷ 0 ∷ 13 ∷ 0 ∷ 1 ∷ 5 ∷ 0 ∷ 2
+    ∷ 6 ∷ 0 ∷ 3 ∷ 0 ∷ 0 ∷ 1 ∷ 8 ∷ 0 ∷ 13 ∷ 0 ∷ 1 ∷ 5 ∷ 0 ∷ 2 ∷ []
+
+abbrev pub example-lines : List Line
+example-lines =
+    played 1 1 16 0 0
+    ∷ played 2 1 16 0 0
+    ∷ played 3 7 0 0 0
+    ∷ played 4 13 1 9 0
+    ∷ played 5 3 0 0 0
+    ∷ played 6 13 1 10 0
+    ∷ end 6 ∷ []
+
+-- how other journals end: empty, one byte left, a length below 5, a length past the end, and too long
+pub record JournalEnds : Type 0 where
+  pub prints : output example-journal ≡ example-lines
+  pub empty : output [] ≡ end 0 ∷ []
+  pub one-byte : output (6 ∷ []) ≡ broken 0 ∷ []
+  pub below-5 : output (4 ∷ 0 ∷ 1 ∷ 0 ∷ []) ≡ broken 0 ∷ []
+  pub past-the-end : output (6 ∷ 0 ∷ 1 ∷ 0 ∷ 16 ∷ []) ≡ broken 0 ∷ []
+  pub too-long : (j : List ℕ) → 65536 < length j → output j ≡ long ∷ []
