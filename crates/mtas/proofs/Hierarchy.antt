@@ -9,7 +9,7 @@ use borrow.Author.Tests.{eqb-true, eq-eqb, not-true}
 use Rattle.bits.specs.Below.{any-below}
 use Rattle.bits.proofs.Booleans.{and-left, and-right, clash, below-or-not}
 use Rattle.bits.proofs.Below.{any-both-intro, any-both-elim}
-use Rattle.mtas.specs.Hierarchy.{Role, _#_, Graph, Reaches, itself, down, Acyclic, nth-role, same-role, within, reaches}
+use Rattle.mtas.specs.Hierarchy.{Role, _#_, Graph, Reaches, itself, down, Acyclic, nth-role, same-role, within, most-links, reaches}
 
 pub then : {e : Graph} {a b c : Role} → Reaches e a b → Reaches e b c → Reaches e a c
 then p itself = p
@@ -199,7 +199,7 @@ abbrev pub Numbered : Graph → Type 0
 Numbered e = (a b : Role) → e a b ≡ true → (a .issuer < 16) × (a .number < 16) × (b .issuer < 16) × (b .number < 16)
 
 pub reaches-sound : (e : Graph) (a b : Role) → reaches e a b ≡ true → Reaches e a b
-reaches-sound e a b h = within-sound e a 256 b h
+reaches-sound e a b h = within-sound e a most-links b h
 
 pub reaches-complete : (e : Graph) → Numbered e → {a b : Role} → Reaches e a b → reaches e a b ≡ true
 unfolding within

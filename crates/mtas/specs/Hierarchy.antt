@@ -38,6 +38,10 @@ unfoldable pub within : Graph → ℕ → Role → Role → Bool
 within below zero a c = same-role a c
 within below (suc n) a c = elim (same-role a c) [ true ↦ true | false ↦ any-below 256 (λ k. below (nth-role k) c && within below n a (nth-role k)) ]
 
--- the test for Reaches: among 256 roles no path needs more than 256 links
+-- among 256 roles no path needs more links
+abbrev pub most-links : ℕ
+most-links = 256
+
+-- the test for Reaches
 abbrev pub reaches : Graph → Role → Role → Bool
-reaches below a b = within below 256 a b
+reaches below a b = within below most-links a b

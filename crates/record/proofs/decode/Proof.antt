@@ -1,0 +1,36 @@
+-- `record::decode` meets its contract: the tests that led to a `return` say which case of the model's `decode` holds. The other needs are indices and a cast.
+use borrow.Author.Needs.{needs}
+use native.Mathlib.Omega.{arith}
+use Rattle.bits.specs.Below.{tabulate}
+use Rattle.record.proofs.Bytes.{short, wrong-length, filled, unfilled}
+use Rattle.record.proofs.decode.Statement.{statement}
+use Rattle.record.proofs.decode.Tie as tie
+
+pub decode-spec : {M : Type 1} → statement M
+unfolding tabulate
+decode-spec =
+    tie.close
+    (tie.spec
+    (λ c. short _ (omega arith))
+    (λ c. search needs)
+    (λ c. search needs)
+    (λ c κs. search needs)
+    (λ c. search needs)
+    (λ c. wrong-length _ (λ q. omega arith))
+    (λ c. search needs)
+    (λ c. search needs)
+    (λ c κs. search needs)
+    (λ c. search needs)
+    (λ c. search needs)
+    (λ c κs. search needs)
+    (λ c. search needs)
+    (λ c. search needs)
+    (λ c κs. search needs)
+    (λ c. search needs)
+    (λ c. search needs)
+    (λ c. search needs)
+    (λ c κs. search needs)
+    (λ c. search filled)
+    (λ c. search filled)
+    (λ c. search filled)
+    (λ c. search unfilled))
