@@ -1,11 +1,11 @@
 -- What the tests over the numbers below n say, and the places of a tabulated list.
-use mathlib.Core.Path.{_≡_, refl, ap, sym, _∙_}
+use mathlib.Core.Path.{_≡_, refl, ap, sym, subst, _∙_}
 use mathlib.Core.Logic.{_⊎_, inl, inr, _≢_}
 use mathlib.Core.Bool.{Bool, true, false, _&&_}
 use Prim.Native.Nat.{ℕ, zero, suc, _<_, _≤_}
 use native.Mathlib.Omega.{arith}
 use lib.ListN.{length, getD}
-use Rattle.bits.specs.Below.{any-below, all-below, find-below, tabulate}
+use Rattle.bits.specs.Below.{any-below, all-below, find-below, tally, tabulate}
 use Rattle.bits.proofs.Booleans.{clash, and-left, and-right, and-intro, same-test, below-or-not}
 
 pub any-intro : (n : ℕ) (f : ℕ → Bool) (k : ℕ) → k < n → f k ≡ true → any-below n f ≡ true
@@ -98,6 +98,40 @@ find-ext (suc n) f g d h = go (find-ext n f g d h) (f n) refl
     go : find-below n f d ≡ find-below n g d → (b : Bool) → f n ≡ b → find-below (suc n) f d ≡ find-below (suc n) g d
     go rec true e = let e2 : g n ≡ true = sym (h n) ∙ e in rw (e, e2, find-below)
     go rec false e = let e2 : g n ≡ false = sym (h n) ∙ e in rw (e, e2, find-below) rec
+
+pub tally-le : (n : ℕ) (f : ℕ → Bool) → tally n f ≤ n
+unfolding tally
+tally-le zero f = omega arith
+tally-le (suc n) f = go (tally-le n f) (f n) refl
+  where
+    go : tally n f ≤ n → (b : Bool) → f n ≡ b → tally (suc n) f ≤ suc n
+    go rec true e = rw (e, tally) (omega arith)
+    go rec false e = rw (e, tally) (omega arith)
+
+module _ (f g : ℕ → Bool) (s : (k : ℕ) → f k ≡ true → g k ≡ true) where
+  pub tally-mono : (n : ℕ) → tally n f ≤ tally n g
+  unfolding tally
+  tally-mono zero = omega arith
+  tally-mono (suc n) = go (tally-mono n) (f n) refl (g n) refl
+    where
+      go : tally n f ≤ tally n g → (b : Bool) → f n ≡ b → (c : Bool) → g n ≡ c → tally (suc n) f ≤ tally (suc n) g
+      go rec true e true d = rw (e, d, tally) (omega arith)
+      go rec true e false d = absurd (clash (s n e) d)
+      go rec false e true d = rw (e, d, tally) (omega arith)
+      go rec false e false d = rw (e, d, tally) rec
+
+  pub tally-more : (n k : ℕ) → k < n → f k ≡ false → g k ≡ true → tally n f < tally n g
+  unfolding tally
+  tally-more zero k l p q = absurd (omega arith)
+  tally-more (suc n) k l p q = go (tally-mono n) (λ (m : k < n). tally-more n k m p q) (f n) refl (g n) refl (below-or-not k n)
+    where
+      go : tally n f ≤ tally n g → (k < n → tally n f < tally n g) → (b : Bool) → f n ≡ b → (c : Bool) → g n ≡ c → (k < n) ⊎ (n ≤ k) → tally (suc n) f < tally (suc n) g
+      go m rec true e true d (inl a) = let r = rec a in rw (e, d, tally) (omega arith)
+      go m rec true e true d (inr a) = let w : k ≡ n = omega arith in absurd (clash e (subst (λ x. f x ≡ false) w p))
+      go m rec true e false d a = absurd (clash (s n e) d)
+      go m rec false e true d a = rw (e, d, tally) (omega arith)
+      go m rec false e false d (inl a) = rw (e, d, tally) (rec a)
+      go m rec false e false d (inr a) = let w : k ≡ n = omega arith in absurd (clash (subst (λ x. g x ≡ true) w q) d)
 
 pub length-tabulate : (n : ℕ) (f : ℕ → ℕ) → length (tabulate n f) ≡ n
 unfolding tabulate

@@ -1,7 +1,7 @@
 -- Tests: what a true or a false one says.
 use mathlib.Core.Path.{_≡_, refl, sym, _∙_}
-use mathlib.Core.Logic.{_⊎_, inl, inr}
-use mathlib.Core.Bool.{Bool, true, false, false≢true, _&&_, _||_}
+use mathlib.Core.Logic.{_⊎_, inl, inr, _↔_}
+use mathlib.Core.Bool.{Bool, true, false, false≢true, not, _&&_, _||_}
 use Prim.Native.Nat.{ℕ, _<_, _≤_}
 use borrow.Author.Tests.{ltb-true, ltb-false}
 use lib.Dec.{ltb}
@@ -17,8 +17,16 @@ pub and-right : (a b : Bool) → a && b ≡ true → b ≡ true
 and-right true b h = h
 and-right false b h = absurd (false≢true h)
 
+pub and-both : (a b : Bool) → a && b ≡ true → (a ≡ true) × (b ≡ true)
+and-both a b h = (and-left a b h, and-right a b h)
+
 pub and-intro : (a b : Bool) → a ≡ true → b ≡ true → a && b ≡ true
 and-intro a b h k = cc
+
+pub and-not : (a b : Bool) → (a && not b ≡ false) ↔ (a ≡ true → b ≡ true)
+and-not true true = (λ e h. refl, λ f. refl)
+and-not true false = (λ e h. sym e, λ f. sym (f refl))
+and-not false b = (λ e h. absurd (false≢true h), λ f. refl)
 
 pub or-cases : (a b : Bool) → a || b ≡ true → (a ≡ true) ⊎ (b ≡ true)
 or-cases true b h = inl refl

@@ -18,6 +18,11 @@ unfoldable pub find-below : ℕ → (ℕ → Bool) → ℕ → ℕ
 find-below zero f d = d
 find-below (suc n) f d = elim (f n) [ true ↦ n | false ↦ find-below n f d ]
 
+-- how many numbers below n pass
+unfoldable pub tally : ℕ → (ℕ → Bool) → ℕ
+tally zero f = 0
+tally (suc n) f = elim (f n) [ true ↦ suc (tally n f) | false ↦ tally n f ]
+
 -- the list of n numbers with f k at place k
 unfoldable pub tabulate : ℕ → (ℕ → ℕ) → List ℕ
 tabulate zero f = []

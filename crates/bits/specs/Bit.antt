@@ -1,6 +1,7 @@
 -- Bits of words. Bit n has weight 2 to the power n (document 01, 'The state').
 use mathlib.Core.Bool.{Bool, true, false}
-use Prim.Native.Nat.{ℕ, zero, suc, _+_, _*_, _/_, _%_, _^_}
+use Prim.Native.Nat.{ℕ, zero, suc, _+_, _-_, _*_, _/_, _%_, _^_}
+use lib.Bits.{bitAnd, bitOr}
 use lib.Dec.{eqb}
 
 -- bit n of the word w
@@ -15,3 +16,10 @@ digit false = 0
 unfoldable pub pack : ℕ → (ℕ → Bool) → ℕ
 pack zero f = 0
 pack (suc n) f = digit (f 0) + 2 * pack n (λ k. f (suc k))
+
+-- the word w with bit n, and without it
+unfoldable pub with-bit : ℕ → ℕ → ℕ
+with-bit w n = bitOr w (2 ^ n)
+
+unfoldable pub without-bit : ℕ → ℕ → ℕ
+without-bit w n = bitAnd w (65535 - 2 ^ n)

@@ -1,1 +1,111 @@
-// Bits of words, and tests over the numbers below a bound: definitions in specs/, their laws in proofs/. Nothing runs here yet.
+// Bits of 16-bit words, sets of roles, and words of a lent slice masked or gathered.
+// The definitions that the contracts cite are in specs/; their laws, and the proofs, in proofs/.
+ghost use mathlib.Core.Path.{_≡_};
+ghost use mathlib.Core.Bool.{false};
+ghost use Prim.Native.Nat.{ℕ, _+_, _-_, _*_, _<_, _≤_};
+ghost use lib.ListN.{length, getD};
+ghost use lib.Bits.{bitAnd};
+ghost use Rattle.bits.specs.Bit.{bit, with-bit, without-bit};
+ghost use Rattle.bits.specs.RoleSet.{in-set, Added, Union};
+ghost use Rattle.bits.specs.Update.{Masked};
+ghost use Rattle.bits.specs.Stride.{in-run, in-column};
+ghost use Rattle.bits.specs.Gather.{gather};
+
+pub fn has_bit(w: u16, n: u8) -> bool
+    requires { ⌜ n < 16 ⌝ }
+    ensures { λ r. ⌜ r ≡ bit w n ⌝ }
+{
+    (w >> n) % 2 == 1
+}
+
+pub fn with_bit(w: u16, n: u8) -> u16
+    requires { ⌜ n < 16 ⌝ }
+    ensures { λ r. ⌜ r ≡ with-bit w n ⌝ }
+{
+    w | (1u16 << n)
+}
+
+pub fn without_bit(w: u16, n: u8) -> u16
+    requires { ⌜ n < 16 ⌝ }
+    ensures { λ r. ⌜ r ≡ without-bit w n ⌝ }
+{
+    w & !(1u16 << n)
+}
+
+// A set of roles: a word for each issuer, with bit r for role r.
+pub struct RoleSet {
+    pub words: [u16; 16],
+}
+
+impl RoleSet {
+    pub fn empty() -> Self
+        ensures { λ s. ⌜ ((i r : ℕ) → in-set (s .words) i r ≡ false) ⌝ }
+    {
+        RoleSet { words: [0u16; 16] }
+    }
+
+    // Whether role r of issuer i is in the set.
+    pub fn has(self, i: usize, r: u8) -> bool
+        requires { ⌜ (i < 16) × (r < 16) ⌝ }
+        ensures { λ b. ⌜ b ≡ in-set (self .words) i r ⌝ }
+    {
+        let w = self.words[i];
+        has_bit(w, r)
+    }
+
+    // The set with role r of issuer i.
+    pub fn add(mut self, i: usize, r: u8) -> Self
+        requires { ⌜ (i < 16) × (r < 16) ⌝ }
+        ensures { λ s. ⌜ Added i r (self .words) (s .words) ⌝ }
+    {
+        let w = self.words[i];
+        self.words[i] = with_bit(w, r);
+        self
+    }
+
+    pub fn union(mut self, other: RoleSet) -> Self
+        ensures { λ s. ⌜ Union (self .words) (other .words) (s .words) ⌝ }
+    {
+        for i in 0..16 {
+            let a = self.words[i];
+            let b = other.words[i];
+            self.words[i] = a | b;
+        }
+        self
+    }
+}
+
+// Mask the words at from, from + 1, .., from + count - 1.
+pub fn mask_run(state: &mut [u16], from: usize, count: usize, mask: u16)
+    requires { ⌜ from + count ≤ length (now state) ⌝ }
+    ensures { λ _. ⌜ Masked (in-run from count) mask (now (state .entry)) (now (state .exit)) ⌝ }
+{
+    for i in 0..count {
+        let k = from + i;
+        state[k] = state[k] & mask;
+    }
+}
+
+// Mask the words at from, from + 16, .., from + 16 * (count - 1).
+pub fn mask_column(state: &mut [u16], from: usize, count: usize, mask: u16)
+    requires { ⌜ from + 16 * count ≤ length (now state) + 15 ⌝ }
+    ensures { λ _. ⌜ Masked (in-column from count) mask (now (state .entry)) (now (state .exit)) ⌝ }
+{
+    for row in 0..count {
+        let k = from + 16 * row;
+        state[k] = state[k] & mask;
+    }
+}
+
+// The bits of sixteen words, from state[at] on, that are not bits of the allowed words.
+pub fn gather_row(state: &[u16], at: usize, allowed: RoleSet) -> u16
+    requires { ⌜ at + 16 ≤ length (now state) ⌝ }
+    ensures { λ r. ⌜ r ≡ gather 16 (λ i. bitAnd (getD (now (state .entry)) (at + i) 0) (65535 - getD (allowed .words) i 0)) ⌝ }
+{
+    let mut found = 0u16;
+    for i in 0..16 {
+        let a = allowed.words[i];
+        found = found | (state[at + i] & !a);
+    }
+    found
+}

@@ -72,7 +72,7 @@ tried-upwards u-of c (AddActiveRole s r) = refl
 tried-upwards u-of c (DropActiveRole s r) = refl
 tried-upwards u-of c (CheckAccess p i s) = refl
 
-refused-from : (st : State) (l : List Guard) (m n : ℕ) → ascending m l ≡ true → first-cause st l ≡ refused n → m ≤ n
+pub refused-from : (st : State) (l : List Guard) (m n : ℕ) → ascending m l ≡ true → first-cause st l ≡ refused n → m ≤ n
 unfolding first-cause
 refused-from st [] m n a h = absurd (let z : _≡_ {A = ℕ} 0 1 = cc in omega arith)
 refused-from st (g ∷ l) m n a h = go (refused-from st l (cause g) n) (applies st g) refl

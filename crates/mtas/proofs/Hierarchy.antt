@@ -2,13 +2,13 @@
 use mathlib.Core.Path.{_≡_, refl, ap, sym, subst}
 use mathlib.Core.Logic.{_⊎_, inl, inr}
 use mathlib.Core.Bool.{Bool, true, false, not, _&&_}
-use Prim.Native.Nat.{ℕ, zero, suc, _<_, _≤_, _+_, _*_, _/_, _%_}
+use Prim.Native.Nat.{ℕ, zero, suc, _<_, _+_, _*_, _/_, _%_}
 use native.Mathlib.Omega.{arith}
 use lib.Dec.{eqb}
 use borrow.Author.Tests.{eqb-true, eq-eqb, not-true}
-use Rattle.bits.specs.Below.{any-below}
-use Rattle.bits.proofs.Booleans.{and-left, and-right, clash, below-or-not}
-use Rattle.bits.proofs.Below.{any-both-intro, any-both-elim}
+use Rattle.bits.specs.Below.{any-below, tally}
+use Rattle.bits.proofs.Booleans.{and-left, and-right, clash}
+use Rattle.bits.proofs.Below.{any-both-intro, any-both-elim, tally-le, tally-more}
 use Rattle.mtas.specs.Hierarchy.{Role, _#_, Graph, Reaches, itself, down, Acyclic, nth-role, same-role, within, most-links, reaches}
 
 pub then : {e : Graph} {a b c : Role} → Reaches e a b → Reaches e b c → Reaches e a c
@@ -60,45 +60,6 @@ nth-role-of a h k =
     let i : (a .issuer * 16 + a .number) / 16 ≡ a .issuer = omega arith in
     let n : (a .issuer * 16 + a .number) % 16 ≡ a .number = omega arith in
     λ t. i t # n t
-
--- how many of the first n numbers pass
-unfoldable tally : ℕ → (ℕ → Bool) → ℕ
-tally zero f = 0
-tally (suc n) f = elim (f n) [ true ↦ suc (tally n f) | false ↦ tally n f ]
-
-tally-le : (n : ℕ) (f : ℕ → Bool) → tally n f ≤ n
-unfolding tally
-tally-le zero f = omega arith
-tally-le (suc n) f = go (tally-le n f) (f n) refl
-  where
-    go : tally n f ≤ n → (b : Bool) → f n ≡ b → tally (suc n) f ≤ suc n
-    go rec true e = rw (e, tally) (omega arith)
-    go rec false e = rw (e, tally) (omega arith)
-
-module _ (f g : ℕ → Bool) (s : (k : ℕ) → f k ≡ true → g k ≡ true) where
-  tally-mono : (n : ℕ) → tally n f ≤ tally n g
-  unfolding tally
-  tally-mono zero = omega arith
-  tally-mono (suc n) = go (tally-mono n) (f n) refl (g n) refl
-    where
-      go : tally n f ≤ tally n g → (b : Bool) → f n ≡ b → (c : Bool) → g n ≡ c → tally (suc n) f ≤ tally (suc n) g
-      go rec true e true d = rw (e, d, tally) (omega arith)
-      go rec true e false d = absurd (clash (s n e) d)
-      go rec false e true d = rw (e, d, tally) (omega arith)
-      go rec false e false d = rw (e, d, tally) rec
-
-  tally-more : (n k : ℕ) → k < n → f k ≡ false → g k ≡ true → tally n f < tally n g
-  unfolding tally
-  tally-more zero k l p q = absurd (omega arith)
-  tally-more (suc n) k l p q = go (tally-mono n) (λ (m : k < n). tally-more n k m p q) (f n) refl (g n) refl (below-or-not k n)
-    where
-      go : tally n f ≤ tally n g → (k < n → tally n f < tally n g) → (b : Bool) → f n ≡ b → (c : Bool) → g n ≡ c → (k < n) ⊎ (n ≤ k) → tally (suc n) f < tally (suc n) g
-      go m rec true e true d (inl a) = let r = rec a in rw (e, d, tally) (omega arith)
-      go m rec true e true d (inr a) = let w : k ≡ n = omega arith in absurd (clash e (subst (λ x. f x ≡ false) w p))
-      go m rec true e false d a = absurd (clash (s n e) d)
-      go m rec false e true d a = rw (e, d, tally) (omega arith)
-      go m rec false e false d (inl a) = rw (e, d, tally) (rec a)
-      go m rec false e false d (inr a) = let w : k ≡ n = omega arith in absurd (clash (subst (λ x. g x ≡ true) w q) d)
 
 -- ---- the test
 module _ (e : Graph) (a : Role) where

@@ -1,0 +1,4 @@
+pub mod Tries
+pub mod Told
+pub mod Found
+pub mod Dispatch

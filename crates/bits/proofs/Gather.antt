@@ -1,0 +1,45 @@
+-- The bits gathered from several words: none are found exactly where no word has any.
+use mathlib.Core.Path.{_≡_, refl, ap₂, sym, _∙_}
+use mathlib.Core.Logic.{_↔_, _⊎_, inl, inr}
+use mathlib.Core.Bool.{true, not, _&&_}
+use Prim.Native.Nat.{ℕ, zero, suc, _-_, _<_, _≤_}
+use native.Mathlib.Omega.{arith}
+use lib.Bits.{bitAnd, bitOr, or-add-and, and-le-l, and-le-r}
+use Rattle.bits.specs.Bit.{bit}
+use Rattle.bits.specs.Gather.{gather}
+use Rattle.bits.proofs.Bit.{bit-0, bit-and, bit-not, word-ext}
+use Rattle.bits.proofs.Booleans.{below-or-not, and-not}
+
+pub gather-ext : (n : ℕ) (f g : ℕ → ℕ) → ((k : ℕ) → k < n → f k ≡ g k) → gather n f ≡ gather n g
+unfolding gather
+gather-ext zero f g h = refl
+gather-ext (suc n) f g h = ap₂ bitOr (gather-ext n f g (λ k l. h k (omega arith))) (h n (omega arith))
+
+or-zero : (a b : ℕ) → (bitOr a b ≡ 0) ↔ ((a ≡ 0) × (b ≡ 0))
+or-zero a b = (
+  λ e. (omega (arith, or-add-and a b, and-le-r a b), omega (arith, or-add-and a b, and-le-l a b)),
+  λ (p, q). omega (arith, or-add-and a b),
+)
+
+pub gather-zero : (n : ℕ) (f : ℕ → ℕ) → (gather n f ≡ 0) ↔ ((k : ℕ) → k < n → f k ≡ 0)
+unfolding gather
+gather-zero zero f = (λ e k l. absurd (omega arith), λ h. refl)
+gather-zero (suc n) f = (
+  λ e k l. let (p, q) = or-zero (gather n f) (f n) .0 e in go k q (gather-zero n f .0 p k) (below-or-not k n) l,
+  λ h. or-zero (gather n f) (f n) .1 (gather-zero n f .1 (λ k l. h k (omega arith)), h n (omega arith)),
+)
+  where
+    go : (k : ℕ) → f n ≡ 0 → (k < n → f k ≡ 0) → (k < n) ⊎ (n ≤ k) → k < suc n → f k ≡ 0
+    go k q rec (inl m) l = rec m
+    go k q rec (inr m) l = let e : k ≡ n = omega arith in rw e q
+
+-- w has no bit outside a exactly where each of its bits is one of a
+pub stray-zero : (w a : ℕ) → a < 65536 → w < 65536 → (bitAnd w (65535 - a) ≡ 0) ↔ ((n : ℕ) → n < 16 → bit w n ≡ true → bit a n ≡ true)
+stray-zero w a la lw = (
+  λ e n l. and-not (bit w n) (bit a n) .0 (sym (stray n l) ∙ rw e (bit-0 n)),
+  λ h. word-ext 16 _ 0 (omega (arith, and-le-l w (65535 - a))) (omega arith)
+      (λ n l. stray n l ∙ and-not (bit w n) (bit a n) .1 (h n l) ∙ sym (bit-0 n)),
+)
+  where
+    stray : (n : ℕ) → n < 16 → bit (bitAnd w (65535 - a)) n ≡ bit w n && not (bit a n)
+    stray n l = rw (bit-not 16 a n la l) at (bit-and w (65535 - a) n)

@@ -1,0 +1,5 @@
+pub mod Links
+pub mod Rows
+pub mod Grown
+pub mod Sweeps
+pub mod Circles

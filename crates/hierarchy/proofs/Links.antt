@@ -1,0 +1,71 @@
+-- The graph of the attachment words: only numbered roles are linked, and of a state's words it is what the state says.
+use mathlib.Core.Path.{_≡_, refl, ap, sym, _∙_}
+use mathlib.Core.Bool.{Bool, true, false}
+use mathlib.Core.List.{List, [], _∷_}
+use Prim.Native.Nat.{ℕ, _+_, _*_, _<_}
+use native.Mathlib.Omega.{arith}
+use lib.ListN.{length, getD, take, drop, length-take, length-drop}
+use lib.Seq.{ext-getD, getD-take, getD-drop}
+use Rattle.bits.specs.Bit.{bit}
+use Rattle.bits.specs.Stride.{in-run}
+use Rattle.bits.specs.Update.{Updated}
+use Rattle.bits.proofs.Booleans.{clash, same-test}
+use Rattle.bits.proofs.Stride.{run-in}
+use Rattle.mtas.specs.Fact.{attached, above-15, Below16}
+use Rattle.mtas.specs.Hierarchy.{Role, _#_, nth-role}
+use Rattle.mtas.specs.Law.{attachments}
+use Rattle.mtas.specs.Layout.{view}
+use Rattle.mtas.proofs.Facts.{below-16, none-above-15}
+use Rattle.mtas.proofs.Hierarchy.{Numbered}
+use Rattle.mtas.proofs.Words.{view-says, view-numbered}
+use Rattle.hierarchy.specs.Links.{linked}
+
+-- the k-th role is the one with these numbers
+pub role-at : (k : ℕ) (b : Role) → k ≡ 16 * b .issuer + b .number → b .number < 16 → nth-role k ≡ b
+role-at k b e h =
+    let i : (nth-role k) .issuer ≡ b .issuer = omega arith in
+    let n : (nth-role k) .number ≡ b .number = omega arith in
+    λ t. i t # n t
+
+module _ (words : List ℕ) where
+  abbrev four : Role → Role → List ℕ
+  four a b = b .issuer ∷ b .number ∷ a .issuer ∷ a .number ∷ []
+
+  pub linked-numbered : Numbered (linked words)
+  unfolding linked
+  linked-numbered a b h = go (above-15 (four a b)) refl
+    where
+      go : (x : Bool) → above-15 (four a b) ≡ x → (a .issuer < 16) × (a .number < 16) × (b .issuer < 16) × (b .number < 16)
+      go true e = absurd (clash (rw (e, linked) at h) refl)
+      go false e = let n = below-16 (four a b) e in (omega arith, omega arith, omega arith, omega arith)
+
+  pub linked-bit : (a b : Role) → Below16 (four a b) → linked words a b ≡ bit (getD words (16 * (16 * b .issuer + b .number) + a .issuer) 0) (a .number)
+  unfolding linked
+  linked-bit a b h = rw (none-above-15 (four a b) h, linked)
+
+abbrev cut : List ℕ → List ℕ
+cut ws = take 4096 (drop 4417 ws)
+
+-- the graph of a state's attachment words is the graph of the attachments that stand
+pub linked-attachments : (ws : List ℕ) → linked (take 4096 (drop 4417 ws)) ≡ attachments (view ws)
+linked-attachments ws = λ t a b. same a b t
+  where
+    told : (a b : Role) → Below16 (four (cut ws) a b) → linked (cut ws) a b ≡ attachments (view ws) a b
+    told a b h =
+        let p = 16 * (16 * b .issuer + b .number) + a .issuer in
+        let shift : 4417 + p ≡ 4417 + 16 * (16 * b .issuer + b .number) + a .issuer = omega arith in
+        let word = getD-take 4096 (drop 4417 ws) p 0 (omega arith) ∙ getD-drop 4417 ws p 0 ∙ ap (λ k. getD ws k 0) shift in
+        linked-bit (cut ws) a b h ∙ ap (λ w. bit w (a .number)) word
+        ∙ sym (view-says ws (attached (b .issuer) (b .number) (a .issuer) (a .number)) h)
+
+    same : (a b : Role) → linked (cut ws) a b ≡ attachments (view ws) a b
+    same a b =
+        same-test _ _ (λ e. sym (told a b (let n = linked-numbered (cut ws) a b e in (omega arith, (omega arith, (omega arith, (omega arith, tt)))))) ∙ e)
+        (λ e. told a b (view-numbered ws (attached (b .issuer) (b .number) (a .issuer) (a .number)) e) ∙ e)
+
+-- a copy of the attachment words, word by word
+pub copied : (state links : List ℕ) {links₀ : List ℕ} → length state ≡ 9025 → length links ≡ 4096
+    → Updated (in-run 0 4096) (λ k x. getD state (4417 + k) 0) links₀ links → links ≡ take 4096 (drop 4417 state)
+copied state links h l u =
+    ext-getD 0 links _ (simp (length-take, length-drop) (omega arith))
+    (λ i m. rw (getD-take 4096 (drop 4417 state) i 0 (omega arith), getD-drop 4417 state i 0, u .each i, run-in 0 4096 i (omega arith) (omega arith)))

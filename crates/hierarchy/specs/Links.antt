@@ -1,0 +1,28 @@
+-- The attachment words as a graph (document 01, 'The state'), and the roles that a set of roles reaches in it.
+use mathlib.Core.Path.{_≡_}
+use mathlib.Core.Bool.{Bool, true, false}
+use mathlib.Core.List.{List, [], _∷_}
+use Prim.Native.Nat.{ℕ, _+_, _*_, _<_}
+use lib.ListN.{getD}
+use Rattle.bits.specs.Bit.{bit}
+use Rattle.bits.specs.RoleSet.{in-set}
+use Rattle.mtas.specs.Fact.{above-15}
+use Rattle.mtas.specs.Hierarchy.{Role, Graph, Reaches}
+
+-- b is directly below a. The row of b is sixteen words, one for each issuer of a senior; no role has a number above 15.
+unfoldable pub linked : List ℕ → Graph
+linked words a b =
+    elim (above-15 (b .issuer ∷ b .number ∷ a .issuer ∷ a .number ∷ [])) [
+      | true ↦ false
+      | false ↦ bit (getD words (16 * (16 * b .issuer + b .number) + a .issuer) 0) (a .number)
+    ]
+
+-- the role a is in the set
+abbrev pub among : List ℕ → Role → Bool
+among set a = in-set set (a .issuer) (a .number)
+
+-- the roles that those of a set reach: no others, and all of them
+pub record ReachedFrom (below : Graph) (from reached : List ℕ) : Type 0 where
+  pub sound : (b : Role) → b .issuer < 16 → b .number < 16 → among reached b ≡ true
+      → (a : Role) × (a .issuer < 16) × (a .number < 16) × (among from a ≡ true) × Reaches below a b
+  pub complete : (a b : Role) → a .issuer < 16 → a .number < 16 → among from a ≡ true → Reaches below a b → among reached b ≡ true
