@@ -7,8 +7,6 @@ use native.Mathlib.Omega.{arith}
 use lib.Dec.{ltb}
 use borrow.Author.Tests.{ltb-true, not-false}
 use Rattle.bits.specs.Bit.{digit}
-use Rattle.mtas.specs.Fact.{Below16}
-use Rattle.mtas.specs.State.{user-of}
 use Rattle.mtas.specs.Call as model
 use Rattle.mtas.specs.Answer.{Outcome, accepted, refused, outcome, may-use, answer}
 use Rattle.mtas.specs.Layout.{view}

@@ -1,20 +1,18 @@
 -- The walk's set is what the definitions' tests ask for.
-use mathlib.Core.Path.{_≡_, refl, ap, sym, _∙_, subst}
-use mathlib.Core.Logic.{_↔_, _⊎_, inl, inr}
-use mathlib.Core.Bool.{Bool, true, false, not, _&&_, _||_}
+use mathlib.Core.Path.{_≡_, refl, ap, sym, _∙_}
+use mathlib.Core.Bool.{Bool, true, not, _&&_, _||_}
 use mathlib.Core.List.{List}
-use Prim.Native.Nat.{ℕ, _+_, _*_, _<_, _≤_}
-use native.Mathlib.Omega.{arith}
+use Prim.Native.Nat.{ℕ, _+_, _*_, _<_}
 use lib.Bits.{bitAnd}
 use lib.Dec.{eqb}
-use lib.ListN.{length, getD, set, take, drop, replicate, length-replicate}
+use lib.ListN.{getD, set, take, drop, replicate}
 use lib.Seq.{getD-set-same, getD-set-other}
 use native.Mathlib.Decide.{ℕ-discrete}
 use borrow.Author.Tests.{eq-eqb, ne-eqb, eqb-true, eqb-false, not-true}
 use Rattle.bits.specs.Bit.{bit, with-bit}
 use Rattle.bits.specs.Gather.{gather}
 use Rattle.bits.specs.RoleSet.{in-set}
-use Rattle.bits.proofs.Booleans.{and-left, and-right, and-intro, or-cases, or-right, same-test, clash}
+use Rattle.bits.proofs.Booleans.{and-left, and-right, and-intro, same-test}
 use Rattle.bits.proofs.Bit.{bit-0, bit-with}
 use Rattle.bits.proofs.Roles.{in-empty}
 use Rattle.mtas.specs.Fact.{granted, opened, active}

@@ -1,8 +1,8 @@
 -- What the words of a lawful state say of its sessions, as the readers read them.
 use mathlib.Core.Path.{_≡_, refl, ap, sym, _∙_}
-use mathlib.Core.Logic.{_⊎_, inl, inr}
+use mathlib.Core.Logic.{inl, inr}
 use mathlib.Core.List.{List}
-use mathlib.Core.Bool.{Bool, true, false}
+use mathlib.Core.Bool.{Bool, true}
 use Prim.Native.Nat.{ℕ, _<_}
 use native.Mathlib.Omega.{arith}
 use lib.Dec.{ltb}
@@ -10,9 +10,9 @@ use borrow.Author.Tests.{lt-ltb, le-ltb, eq-eqb}
 use Rattle.bits.specs.Bit.{bit}
 use Rattle.bits.proofs.Booleans.{untrue}
 use Rattle.bits.proofs.Bit.{bit-pack}
-use Rattle.mtas.specs.Fact.{Fact, holds, opened, active, numbers, Below16}
-use Rattle.mtas.specs.State.{State, user-of}
-use Rattle.mtas.specs.Layout.{session-user, active-roles, held, read, says, view}
+use Rattle.mtas.specs.Fact.{Fact, opened, active, numbers, Below16}
+use Rattle.mtas.specs.State.{user-of}
+use Rattle.mtas.specs.Layout.{session-user, active-roles, read, says, view}
 use Rattle.mtas.specs.LawTest.{SessionPair, LawfulWords}
 use Rattle.mtas.proofs.Words.{view-says, view-numbered, contents-view}
 

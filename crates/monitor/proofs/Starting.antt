@@ -1,11 +1,10 @@
 -- Every word masked by 0, and then each session's user written: the words of starting.
 use mathlib.Core.Path.{_≡_, refl, ap, sym, _∙_}
-use mathlib.Core.Bool.{Bool, true, false, cond, _&&_}
+use mathlib.Core.Bool.{Bool, true, cond}
 use mathlib.Core.List.{List}
 use Prim.Native.Nat.{ℕ, _+_, _-_, _*_, _/_, _%_, _<_, _≤_}
 use native.Mathlib.Omega.{arith}
-use lib.Bits.{bitAnd, and-zero-r}
-use lib.Dec.{eqb}
+use lib.Bits.{and-zero-r}
 use lib.ListN.{length, getD, set}
 use lib.Seq.{ext-getD}
 use borrow.Author.Tests.{le-leb, eq-eqb, lt-ltb, leb-true, eqb-true, ltb-true, ne-eqb}
@@ -17,7 +16,7 @@ use Rattle.bits.proofs.Stride.{run-in}
 use Rattle.bits.proofs.Below.{length-tabulate, getD-tabulate}
 use Rattle.mtas.specs.Fact.{Below16}
 use Rattle.mtas.specs.Layout.{Word, enrolled-issuers, trusted, users, roles, permissions, held, holders, seniors, session-user, active-roles, state-length, address, word-at}
-use Rattle.mtas.specs.Monitor.{Result, initial, initial-words, start}
+use Rattle.mtas.specs.Monitor.{initial, initial-words, start}
 use Rattle.mtas.proofs.Address.{word-numbers, address-word-at, word-at-numbered}
 use Rattle.monitor.specs.Contract.{Gives, user-place}
 

@@ -1,6 +1,6 @@
 -- `answers::remove_issuer` meets its contract: each return is the first guard of its row that applies.
 use borrow.Author.Needs.{needs}
-use Rattle.answers.proofs.Tries.{tries, numbered}
+use Rattle.answers.proofs.Tries.{tries}
 use Rattle.answers.proofs.remove_issuer.Statement.{statement}
 use Rattle.answers.proofs.remove_issuer.Tie as tie
 
