@@ -2,7 +2,8 @@
 use mathlib.Core.Path.{_≡_, refl, ap₂, sym, _∙_}
 use mathlib.Core.Logic.{_↔_, _⊎_, inl, inr}
 use mathlib.Core.Bool.{true, not, _&&_}
-use Prim.Native.Nat.{ℕ, zero, suc, _-_, _<_, _≤_}
+use Prim.Native.Nat.{ℕ, zero, suc, _+_, _-_, _<_, _≤_}
+use native.Mathlib.Numerals.{add-one}
 use native.Mathlib.Omega.{arith}
 use lib.Bits.{bitAnd, bitOr, or-add-and, and-le-l, and-le-r}
 use Rattle.bits.specs.Bit.{bit}
@@ -10,12 +11,17 @@ use Rattle.bits.specs.Gather.{gather}
 use Rattle.bits.proofs.Bit.{bit-0, bit-and, bit-not, word-ext}
 use Rattle.bits.proofs.Booleans.{below-or-not, and-not}
 
+-- one word more
+pub gather-more : (t : ℕ) (f : ℕ → ℕ) {found w : ℕ} → found ≡ gather t f → w ≡ f t → bitOr found w ≡ gather (t + 1) f
+unfolding gather
+gather-more t f p q = rw (add-one t, p, q)
+
 pub gather-ext : (n : ℕ) (f g : ℕ → ℕ) → ((k : ℕ) → k < n → f k ≡ g k) → gather n f ≡ gather n g
 unfolding gather
 gather-ext zero f g h = refl
 gather-ext (suc n) f g h = ap₂ bitOr (gather-ext n f g (λ k l. h k (omega arith))) (h n (omega arith))
 
-or-zero : (a b : ℕ) → (bitOr a b ≡ 0) ↔ ((a ≡ 0) × (b ≡ 0))
+pub or-zero : (a b : ℕ) → (bitOr a b ≡ 0) ↔ ((a ≡ 0) × (b ≡ 0))
 or-zero a b = (
   λ e. (omega (arith, or-add-and a b, and-le-r a b), omega (arith, or-add-and a b, and-le-l a b)),
   λ (p, q). omega (arith, or-add-and a b),

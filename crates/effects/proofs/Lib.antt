@@ -1,0 +1,9 @@
+pub mod Places
+pub mod Clearing
+pub mod Masks
+pub mod Accepted
+pub mod Putting
+pub mod Setting
+pub mod Pair
+pub mod Cutting
+pub mod Sweeping

@@ -1,0 +1,4 @@
+pub mod Effect
+pub mod Wiped
+pub mod Swept
+pub mod Rights

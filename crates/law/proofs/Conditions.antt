@@ -1,0 +1,147 @@
+-- No stray bits, said of the facts: what each kind of fact needs at first hand.
+use mathlib.Core.Path.{_≡_, refl, sym, _∙_}
+use mathlib.Core.List.{List}
+use mathlib.Core.Logic.{_↔_, _⊎_, inl, inr}
+use mathlib.Core.Bool.{Bool, true, false}
+use Prim.Native.Nat.{ℕ, _+_, _*_, _<_, _≤_}
+use native.Mathlib.Decide.{ℕ-discrete}
+use native.Mathlib.Omega.{arith}
+use lib.Bits.{bitOr}
+use lib.ListN.{getD}
+use Rattle.bits.specs.Bit.{bit}
+use Rattle.bits.specs.Gather.{gather}
+use Rattle.bits.proofs.Booleans.{below-or-not}
+use Rattle.bits.proofs.Gather.{or-zero, gather-zero, stray-zero}
+use Rattle.mtas.specs.Fact.{Fact, enrolled, trusts, user, role, permission, holds, granted, attached}
+use Rattle.mtas.specs.Layout.{Word, address, enrolled-issuers, trusted, users, roles, permissions, held, session-user, active-roles, holders-at, seniors-at, read, says}
+use Rattle.law.specs.Stray.{outside, allowed, trust-stray, present-stray, own-stray, held-stray, rows-stray, session-stray, sessions-stray, issuer-stray}
+use Rattle.law.proofs.Inside.{inside-if, inside-if-both, none-unless, has-if}
+use Rattle.law.proofs.Sessions.{user-present, user-absent, closed, no-user}
+
+or-iff : {a b : ℕ} {A B : Type 0} → (a ≡ 0) ↔ A → (b ≡ 0) ↔ B → (bitOr a b ≡ 0) ↔ (A × B)
+or-iff {a} {b} p q = (λ e. let (x, y) = or-zero a b .0 e in (p .0 x, q .0 y), λ (x, y). or-zero a b .1 (p .1 x, q .1 y))
+
+gather-iff : (f : ℕ → ℕ) {P : ℕ → Type 0} → ((k : ℕ) → k < 16 → (f k ≡ 0) ↔ P k) → (gather 16 f ≡ 0) ↔ ((k : ℕ) → k < 16 → P k)
+gather-iff f h = (λ e k l. h k l .0 (gather-zero 16 f .0 e k l), λ p. gather-zero 16 f .1 (λ k l. h k l .1 (p k l)))
+
+module _ (ws : List ℕ) where
+  abbrev pub Says : Fact → Type 0
+  Says f = says ws f ≡ true
+
+  abbrev Trust : ℕ → Type 0
+  Trust i = (j : ℕ) → j < 16 → Says (trusts i j) → Says (enrolled i) × Says (enrolled j)
+
+  abbrev Itself : ℕ → Type 0
+  Itself i = Says (enrolled i) → Says (trusts i i)
+
+  abbrev Owned : ℕ → (ℕ → Fact) → Type 0
+  Owned i f = (n : ℕ) → n < 16 → Says (f n) → Says (enrolled i)
+
+  abbrev Held : ℕ → Type 0
+  Held i = (u : ℕ) → u < 16 → (r : ℕ) → r < 16 → Says (holds i u r) → Says (user i u) × Says (role i r)
+
+  -- grants of j's permissions, and attachments of j's roles
+  abbrev Linked : ℕ → (ℕ → Fact) → (ℕ → ℕ → ℕ → Fact) → Type 0
+  Linked j owned link =
+      (p : ℕ) → p < 16 → (i : ℕ) → i < 16 → (r : ℕ) → r < 16 → Says (link p i r) → Says (owned p) × Says (trusts i j) × Says (role i r)
+
+  -- an open session's user is present and holds the active roles; a closed one has none
+  abbrev pub Session : ℕ → ℕ → Type 0
+  Session i s =
+      ((read ws (session-user i s) < 16)
+      × Says (user i (read ws (session-user i s)))
+      × ((r : ℕ) → r < 16 → bit (read ws (active-roles i s)) r ≡ true → Says (holds i (read ws (session-user i s)) r)))
+      ⊎ ((read ws (session-user i s) ≡ 65535) × (read ws (active-roles i s) ≡ 0))
+
+  pub record Conditions (i : ℕ) : Type 0 where
+    pub trust : Trust i
+    pub itself : Itself i
+    pub users-of : Owned i (user i)
+    pub roles-of : Owned i (role i)
+    pub permissions-of : Owned i (permission i)
+    pub held-by : Held i
+    pub grants : Linked i (permission i) (granted i)
+    pub attachments-of : Linked i (role i) (attached i)
+    pub sessions : (s : ℕ) → s < 16 → Session i s
+
+  module _ (wide : (k : ℕ) → getD ws k 0 < 65536) (i : ℕ) (li : i < 16) where
+    own-zero : (own-stray ws i ≡ 0) ↔ ((Trust i × Itself i) × ((Owned i (user i) × Owned i (role i)) × Owned i (permission i)))
+    unfolding own-stray trust-stray present-stray
+    own-zero =
+        or-iff (or-iff (inside-if here _ _ (word (trusted i)) (word enrolled-issuers)) (has-if here _ i (word (trusted i)) li))
+        (or-iff (or-iff (none-unless here _ (word (users i))) (none-unless here _ (word (roles i)))) (none-unless here _ (word (permissions i))))
+      where
+        here : Bool
+        here = bit (read ws enrolled-issuers) i
+
+        word : (w : Word) → read ws w < 65536
+        word w = wide (address w)
+
+    held-zero : (held-stray ws i ≡ 0) ↔ Held i
+    unfolding held-stray
+    held-zero = gather-iff _ (λ u _. inside-if (bit (read ws (users i)) u) _ _ (wide (address (held i u))) (wide (address (roles i))))
+
+    rows-zero : (from present : ℕ)
+        → (rows-stray ws from i present (allowed ws i) ≡ 0)
+        ↔ ((p : ℕ) → p < 16 → (k : ℕ) → k < 16 → (r : ℕ) → r < 16 → bit (getD ws (from + 16 * (16 * i + p) + k) 0) r ≡ true
+        → (bit present p ≡ true) × Says (trusts k i) × Says (role k r))
+    unfolding rows-stray
+    rows-zero from present =
+        gather-iff _ (λ p _. gather-iff _ (λ k _.
+        inside-if-both (bit present p) (bit (read ws (trusted k)) i) _ _ (wide (from + 16 * (16 * i + p) + k)) (wide (address (roles k)))))
+
+    session-zero : (s : ℕ) → (session-stray ws i s ≡ 0) ↔ Session i s
+    session-zero s = (λ e. split e (below-or-not w 16), join)
+      where
+        w : ℕ
+        w = read ws (session-user i s)
+
+        a : ℕ
+        a = read ws (active-roles i s)
+
+        roles-held : (outside a (read ws (held i w)) ≡ 0) ↔ ((r : ℕ) → r < 16 → bit a r ≡ true → Says (holds i w r))
+        roles-held = stray-zero a (read ws (held i w)) (wide (address (held i w))) (wide (address (active-roles i s)))
+
+        split : session-stray ws i s ≡ 0 → (w < 16) ⊎ (16 ≤ w) → Session i s
+        split e (inl l) = go (bit (read ws (users i)) w) refl
+          where
+            go : (b : Bool) → bit (read ws (users i)) w ≡ b → Session i s
+            go true q = inl (l, q, roles-held .0 (user-present ws i s l refl q refl ∙ e))
+            go false q = absurd (let z : _≡_ {A = ℕ} 1 0 = user-absent ws i s l refl q ∙ e in omega arith)
+        split e (inr l) = go (ℕ-discrete w 65535)
+          where
+            go : Dec (w ≡ 65535) → Session i s
+            go (yes q) = inr (q, closed ws i s l q ∙ e)
+            go (no n) = absurd (let z : _≡_ {A = ℕ} 1 0 = no-user ws i s l n ∙ e in omega arith)
+
+        join : Session i s → session-stray ws i s ≡ 0
+        join (inl (l, q, f)) = sym (user-present ws i s l refl q refl) ∙ roles-held .1 f
+        join (inr (q, z)) = sym (closed ws i s (omega arith) q) ∙ z
+
+    pub issuer-zero : (issuer-stray ws i ≡ 0) ↔ Conditions i
+    unfolding issuer-stray sessions-stray
+    issuer-zero = (
+      λ e.
+          let ((((((t, o), ((u, r), p)), h), g), a), s) = all .0 e in
+          record {
+            trust = t;
+            itself = o;
+            users-of = u;
+            roles-of = r;
+            permissions-of = p;
+            held-by = h;
+            grants = g;
+            attachments-of = a;
+            sessions = s;
+          },
+      λ c.
+          all .1
+          ((((((c .trust, c .itself), ((c .users-of, c .roles-of), c .permissions-of)), c .held-by), c .grants), c .attachments-of), c .sessions),
+    )
+      where
+        all : (issuer-stray ws i ≡ 0)
+            ↔ ((((((Trust i × Itself i) × ((Owned i (user i) × Owned i (role i)) × Owned i (permission i))) × Held i)
+            × Linked i (permission i) (granted i)) × Linked i (role i) (attached i)) × ((s : ℕ) → s < 16 → Session i s))
+        all =
+            or-iff (or-iff (or-iff (or-iff own-zero held-zero) (rows-zero holders-at (read ws (permissions i))))
+            (rows-zero seniors-at (read ws (roles i)))) (gather-iff (session-stray ws i) (λ s _. session-zero s))

@@ -1,0 +1,6 @@
+pub mod Inside
+pub mod Rows
+pub mod Sessions
+pub mod Conditions
+pub mod Support
+pub mod Whole

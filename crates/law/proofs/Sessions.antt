@@ -1,0 +1,27 @@
+-- The stray bits of a session, by the tests on its user.
+use mathlib.Core.Path.{_≡_, _∙_}
+use mathlib.Core.Bool.{Bool, true, false}
+use mathlib.Core.List.{List}
+use Prim.Native.Nat.{ℕ, _<_, _≤_}
+use borrow.Author.Tests.{lt-ltb, le-ltb, eq-eqb, ne-eqb}
+use Rattle.bits.specs.Bit.{bit}
+use Rattle.mtas.specs.Layout.{users, held, session-user, active-roles, read}
+use Rattle.law.specs.Stray.{outside, session-stray}
+
+module _ (ws : List ℕ) (i s : ℕ) where
+  pub user-present : {b : Bool} {x : ℕ} → read ws (session-user i s) < 16 → b ≡ bit (read ws (users i)) (read ws (session-user i s)) → b ≡ true
+      → x ≡ outside (read ws (active-roles i s)) (read ws (held i (read ws (session-user i s)))) → x ≡ session-stray ws i s
+  unfolding session-stray
+  user-present l e t q = q ∙ rw (lt-ltb _ _ l, ← e, t, session-stray)
+
+  pub user-absent : {b : Bool} → read ws (session-user i s) < 16 → b ≡ bit (read ws (users i)) (read ws (session-user i s)) → b ≡ false → 1 ≡ session-stray ws i s
+  unfolding session-stray
+  user-absent l e t = rw (lt-ltb _ _ l, ← e, t, session-stray)
+
+  pub closed : 16 ≤ read ws (session-user i s) → read ws (session-user i s) ≡ 65535 → read ws (active-roles i s) ≡ session-stray ws i s
+  unfolding session-stray
+  closed l e = rw (le-ltb _ _ l, eq-eqb _ _ e, session-stray)
+
+  pub no-user : 16 ≤ read ws (session-user i s) → (read ws (session-user i s) ≡ 65535 → ⊥) → 1 ≡ session-stray ws i s
+  unfolding session-stray
+  no-user l n = rw (le-ltb _ _ l, ne-eqb _ _ n, session-stray)

@@ -1,0 +1,76 @@
+-- Stray bits: bits of a state's words that lack what they need. Where the law holds, each of these words is 0.
+use mathlib.Core.Path.{_≡_}
+use mathlib.Core.Bool.{Bool, cond}
+use mathlib.Core.List.{List}
+use Prim.Native.Nat.{ℕ, _+_, _-_, _*_, _<_}
+use lib.Bits.{bitAnd, bitOr}
+use lib.Dec.{eqb, ltb}
+use lib.ListN.{getD}
+use Rattle.bits.specs.Bit.{bit, with-bit}
+use Rattle.bits.specs.Gather.{gather}
+use Rattle.mtas.specs.Layout.{enrolled-issuers, trusted, users, roles, permissions, held, session-user, active-roles, holders-at, seniors-at, read}
+
+-- w where the test holds, else no bit
+abbrev pub only-if : Bool → ℕ → ℕ
+only-if test w = cond test w 0
+
+-- the bits of w that are not bits of a
+abbrev pub outside : ℕ → ℕ → ℕ
+outside w a = bitAnd w (65535 - a)
+
+-- 'trust only among enrolled issuers, and each enrolled one trusts itself'; here says whether i is enrolled
+unfoldable pub trust-stray : List ℕ → ℕ → Bool → ℕ
+trust-stray ws i here =
+    bitOr (outside (read ws (trusted i)) (only-if here (read ws enrolled-issuers)))
+    (outside (only-if here (with-bit 0 i)) (read ws (trusted i)))
+
+-- 'users, roles and permissions only under enrolled issuers'
+unfoldable pub present-stray : List ℕ → ℕ → Bool → ℕ
+present-stray ws i here =
+    bitOr (bitOr (outside (read ws (users i)) (only-if here 65535)) (outside (read ws (roles i)) (only-if here 65535)))
+    (outside (read ws (permissions i)) (only-if here 65535))
+
+unfoldable pub own-stray : List ℕ → ℕ → ℕ
+own-stray ws i = bitOr (trust-stray ws i (bit (read ws enrolled-issuers) i)) (present-stray ws i (bit (read ws enrolled-issuers) i))
+
+-- 'held bits only between a present user and a present role'
+unfoldable pub held-stray : List ℕ → ℕ → ℕ
+held-stray ws i = gather 16 (λ u. outside (read ws (held i u)) (only-if (bit (read ws (users i)) u) (read ws (roles i))))
+
+-- the roles of i that may hold j's permissions and be seniors of j's roles: those present, where i trusts j
+abbrev pub allowed : List ℕ → ℕ → ℕ → ℕ
+allowed ws j i = only-if (bit (read ws (trusted i)) j) (read ws (roles i))
+
+-- a set of the roles allowed to j
+pub record Trusting (ws : List ℕ) (j : ℕ) (words : List ℕ) : Type 0 where
+  pub each : (i : ℕ) → i < 16 → getD words i 0 ≡ allowed ws j i
+
+-- after: the set before where the test holds, else no role
+pub record OnlyIf (test : Bool) (before after : List ℕ) : Type 0 where
+  pub each : (i : ℕ) → getD after i 0 ≡ only-if test (getD before i 0)
+
+-- 'grants and attachments only between present ends': the sixteen rows of j in a region, where row p may have the bits of a i in its word i,
+-- if bit p of present is set
+unfoldable pub rows-stray : List ℕ → ℕ → ℕ → ℕ → (ℕ → ℕ) → ℕ
+rows-stray ws from j present a =
+    gather 16 (λ p. gather 16 (λ i. outside (getD ws (from + 16 * (16 * j + p) + i) 0) (only-if (bit present p) (a i))))
+
+-- 'a closed session has no active role, an open one a present user and active roles that this user holds'; any other user counts as a stray bit
+unfoldable pub session-stray : List ℕ → ℕ → ℕ → ℕ
+session-stray ws i s =
+    cond (ltb (read ws (session-user i s)) 16)
+    (cond (bit (read ws (users i)) (read ws (session-user i s)))
+    (outside (read ws (active-roles i s)) (read ws (held i (read ws (session-user i s)))))
+    1)
+    (cond (eqb (read ws (session-user i s)) 65535) (read ws (active-roles i s)) 1)
+
+unfoldable pub sessions-stray : List ℕ → ℕ → ℕ
+sessions-stray ws i = gather 16 (session-stray ws i)
+
+-- all that the issuer i owns
+unfoldable pub issuer-stray : List ℕ → ℕ → ℕ
+issuer-stray ws i =
+    bitOr (bitOr (bitOr (bitOr (own-stray ws i) (held-stray ws i))
+    (rows-stray ws holders-at i (read ws (permissions i)) (allowed ws i)))
+    (rows-stray ws seniors-at i (read ws (roles i)) (allowed ws i)))
+    (sessions-stray ws i)

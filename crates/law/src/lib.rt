@@ -1,0 +1,158 @@
+// The law test on the words of a state (document 01, 'Lawful means').
+// A stray bit is one that lacks what it needs. The stray bits of all words are gathered into one word, which is 0 where the law holds.
+ghost use mathlib.Core.Path.{_≡_};
+ghost use mathlib.Core.Logic.{_↔_};
+ghost use mathlib.Core.Bool.{true};
+ghost use Prim.Native.Nat.{_+_, _*_, _<_, _≤_};
+ghost use lib.ListN.{length, getD};
+ghost use Rattle.mtas.specs.Layout.{state-length};
+ghost use Rattle.mtas.specs.LawTest.{lawful-words};
+ghost use Rattle.law.specs.Supported.{Supported};
+ghost use Rattle.law.specs.Stray.{only-if, outside, own-stray, held-stray, OnlyIf, Trusting, rows-stray, session-stray, sessions-stray, issuer-stray};
+
+// w where the test holds, else no bit.
+fn only_if(test: bool, w: u16) -> u16
+    ensures { λ r. ⌜ r ≡ only-if test w ⌝ }
+{
+    if test { w } else { 0 }
+}
+
+// The bits of w that are not bits of the allowed word.
+fn outside(w: u16, allowed: u16) -> u16
+    ensures { λ r. ⌜ r ≡ outside w allowed ⌝ }
+{
+    w & !allowed
+}
+
+// Trust only among enrolled issuers, i's in itself where i is enrolled, and users, roles and permissions only there.
+fn stray_own(state: &[u16], i: usize) -> u16
+    requires { ⌜ (length (now state) ≡ state-length) × (i < 16) ⌝ }
+    ensures { λ r. ⌜ r ≡ own-stray (now (state .entry)) i ⌝ }
+{
+    let n = i as u8;
+    let enrolled = state[0];
+    let trusted = state[1 + i];
+    let here = bits::has_bit(enrolled, n);
+    let itself = bits::with_bit(0, n);
+    let all = only_if(here, 65535);
+    let trust = outside(trusted, only_if(here, enrolled)) | outside(only_if(here, itself), trusted);
+    let present = outside(state[17 + i], all)
+        | outside(state[33 + i], all)
+        | outside(state[49 + i], all);
+    trust | present
+}
+
+// Held bits only between a present user and a present role of i.
+fn stray_held(state: &[u16], i: usize) -> u16
+    requires { ⌜ (length (now state) ≡ state-length) × (i < 16) ⌝ }
+    ensures { λ r. ⌜ r ≡ held-stray (now (state .entry)) i ⌝ }
+{
+    let users = state[17 + i];
+    let roles = state[33 + i];
+    let mut found = 0u16;
+    for u in 0..16 {
+        let allowed = only_if(bits::has_bit(users, u as u8), roles);
+        found = found | outside(state[65 + 16 * i + u], allowed);
+    }
+    found
+}
+
+// The roles that may hold j's permissions and be seniors of j's roles: those present of the issuers that trust j.
+fn trusting(state: &[u16], j: usize) -> bits::RoleSet
+    requires { ⌜ (length (now state) ≡ state-length) × (j < 16) ⌝ }
+    ensures { λ s. ⌜ Trusting (now (state .entry)) j (s .words) ⌝ }
+{
+    let n = j as u8;
+    let mut words = [0u16; 16];
+    for i in 0..16 {
+        words[i] = only_if(bits::has_bit(state[1 + i], n), state[33 + i]);
+    }
+    bits::RoleSet { words }
+}
+
+// The set where the test holds, else no role.
+fn roles_if(test: bool, set: bits::RoleSet) -> bits::RoleSet
+    ensures { λ s. ⌜ OnlyIf test (set .words) (s .words) ⌝ }
+{
+    if test { set } else { bits::RoleSet::empty() }
+}
+
+// The sixteen rows of issuer j in the region from state[from] on: row p has only allowed roles, and none where bit p of present is not set.
+fn stray_rows(state: &[u16], from: usize, j: usize, present: u16, allowed: bits::RoleSet) -> u16
+    requires { ⌜ from + 16 * (16 * j + 16) ≤ length (now state) ⌝ }
+    ensures { λ r. ⌜ r ≡ rows-stray (now (state .entry)) from j present (λ i. getD (allowed .words) i 0) ⌝ }
+{
+    let mut found = 0u16;
+    for p in 0..16 {
+        let row = roles_if(bits::has_bit(present, p as u8), allowed);
+        found = found | bits::gather_row(state, from + 16 * (16 * j + p), row);
+    }
+    found
+}
+
+// A closed session has no active role, an open one a present user and active roles that this user holds.
+fn stray_session(state: &[u16], i: usize, s: usize) -> u16
+    requires { ⌜ (length (now state) ≡ state-length) × (i < 16) × (s < 16) ⌝ }
+    ensures { λ r. ⌜ r ≡ session-stray (now (state .entry)) i s ⌝ }
+{
+    let at = 8513 + 2 * (16 * i + s);
+    let user = state[at];
+    let active = state[at + 1];
+    if user < 16 {
+        if bits::has_bit(state[17 + i], user as u8) {
+            return outside(active, state[65 + 16 * i + user as usize]);
+        }
+        return 1;
+    }
+    if user == 65535 {
+        return active;
+    }
+    1
+}
+
+// The sessions of i.
+fn stray_sessions(state: &[u16], i: usize) -> u16
+    requires { ⌜ (length (now state) ≡ state-length) × (i < 16) ⌝ }
+    ensures { λ r. ⌜ r ≡ sessions-stray (now (state .entry)) i ⌝ }
+{
+    let mut found = 0u16;
+    for s in 0..16 {
+        found = found | stray_session(state, i, s);
+    }
+    found
+}
+
+// The stray bits of the words that the issuer i owns.
+fn stray_of(state: &[u16], i: usize) -> u16
+    requires { ⌜ (length (now state) ≡ state-length) × (i < 16) ⌝ }
+    ensures { λ r. ⌜ r ≡ issuer-stray (now (state .entry)) i ⌝ }
+{
+    let allowed = trusting(state, i);
+    let holders = stray_rows(state, 321, i, state[49 + i], allowed);
+    let seniors = stray_rows(state, 4417, i, state[33 + i], allowed);
+    stray_own(state, i) | stray_held(state, i) | holders | seniors | stray_sessions(state, i)
+}
+
+// Whether what stands has what it needs, and each session's pair is an open or a closed one's.
+fn supported(state: &[u16]) -> bool
+    requires { ⌜ length (now state) ≡ state-length ⌝ }
+    ensures { λ r. ⌜ (r ≡ true) ↔ Supported (now (state .entry)) ⌝ }
+{
+    let mut found = 0u16;
+    for i in 0..16 {
+        found = found | stray_of(state, i);
+    }
+    found == 0
+}
+
+// Whether the words are a lawful state: what stands has what it needs, and no role reaches itself by one or more attachments.
+pub fn lawful(state: &[u16]) -> bool
+    requires { ⌜ length (now state) ≡ state-length ⌝ }
+    ensures { λ r. ⌜ r ≡ lawful-words (now (state .entry)) ⌝ }
+{
+    if supported(state) {
+        hierarchy::acyclic(&state[4417..8513])
+    } else {
+        false
+    }
+}

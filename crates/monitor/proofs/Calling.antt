@@ -1,0 +1,82 @@
+-- A record played on the lent words: each way out of `call` is what the definition says.
+use mathlib.Core.Path.{_≡_, refl, ap, sym, _∙_}
+use mathlib.Core.Bool.{Bool, true, false, not}
+use mathlib.Core.List.{List}
+use Prim.Native.Nat.{ℕ}
+use lib.ListN.{length}
+use borrow.Author.Tests.{eq-eqb, ne-eqb, not-true, not-false}
+use Rattle.mtas.specs.Call as model
+use Rattle.mtas.specs.State.{State, user-of}
+use Rattle.mtas.specs.Rule.{rule, effect}
+use Rattle.mtas.specs.Answer.{accepted, refused, outcome, Outcome, verdict-of, answer, next}
+use Rattle.mtas.specs.Layout.{state-length, view, encode}
+use Rattle.mtas.specs.LawTest.{LawfulWords, lawful-words}
+use Rattle.mtas.specs.Record.{decode}
+use Rattle.mtas.specs.Monitor.{answered, played, monitor}
+use Rattle.mtas.proofs.LawTest.{lawful-words-sound}
+use Rattle.mtas.proofs.Monitor.{monitor-lawful, accepted-zero}
+use Rattle.mtas.proofs.Words.{encode-view}
+use Rattle.mtas.proofs.Step.{refused-answer, refused-equal}
+use Rattle.record.specs.Decoded.{call-of, request-of}
+use Rattle.record.specs.declared.Call.{Call}
+use Rattle.record.specs.declared.Decoded.{Decoded}
+use Rattle.record.specs.declared.Decoded.the-variants.{Request as Requested, Undecodable}
+use Rattle.answers.specs.Refusal.{Refusal, Verdict}
+use Rattle.answers.proofs.Dispatch.{accepted-of}
+use Rattle.effects.specs.Effect.{Accepted, Left}
+use Rattle.monitor.specs.Contract.{Gives}
+
+module _ {ws : List ℕ} (b : List ℕ) where
+  pub wrong-length : (length ws ≡ state-length → ⊥) → Gives (monitor ws b) 1 0 ws
+  unfolding monitor
+  wrong-length n = rw (ne-eqb (length ws) state-length n, monitor) (record { same-refusal = refl; same-verdict = refl; same-words = refl })
+
+  -- t is the law test
+  pub unlawful : {t : Bool} → length ws ≡ state-length → t ≡ lawful-words ws → not t ≡ true → Gives (monitor ws b) 2 0 ws
+  unfolding monitor
+  unlawful {t} l e h = rw (eq-eqb (length ws) state-length l, sym e ∙ not-true t h, monitor) (record { same-refusal = refl; same-verdict = refl; same-words = refl })
+
+pub lawful-of : {ws : List ℕ} {t : Bool} → t ≡ lawful-words ws → not t ≡ false → LawfulWords ws
+lawful-of {ws} {t} e h = lawful-words-sound ws (sym e ∙ not-false t h)
+
+-- a call with refusal 0
+module _ {ws : List ℕ} {c r : ℕ} {k : model.Call} (t : Refusal ws c k r) (z : r ≡ 0) where
+  pub zero : Refusal ws c k 0
+  zero = rw z at t
+
+  pub accepted-call : LawfulWords ws → Accepted ws c k
+  accepted-call W = record { lawful = W; passes = accepted-of t z }
+
+accepted-verdict : (st : State) (c : ℕ) (k : model.Call) → outcome st c k ≡ accepted → (answer st c k) .verdict ≡ verdict-of st c (effect (rule (user-of st c) c k))
+unfolding answer
+accepted-verdict st c k e = rw e
+
+-- d is the record decoded
+module _ {ws : List ℕ} (b : List ℕ) (W : LawfulWords ws) {d : Decoded} (e : request-of d ≡ decode b) where
+  -- the table's answer to the record, and the words that it leaves
+  given : {x : Decoded} → d ≡ x → monitor ws b ≡ record { answer = answered (view ws) (request-of x); words = encode (played (view ws) (request-of x)) }
+  given h =
+      monitor-lawful ws b W
+      ∙ ap (λ q. record { answer = answered (view ws) q; words = encode (played (view ws) q) }) (sym e ∙ ap request-of h)
+
+  pub undecoded : d ≡ Undecodable → Gives (monitor ws b) 3 0 ws
+  undecoded h = rw (given h) (record { same-refusal = refl; same-verdict = refl; same-words = sym (encode-view ws W) })
+
+  module _ {c r : ℕ} {k : Call} (h : d ≡ Requested c k) (t : Refusal ws c (call-of k) r) where
+    pub refused-call : (r ≡ 0 → ⊥) → Gives (monitor ws b) r 0 ws
+    refused-call n = rw (given h) (go (outcome (view ws) c (call-of k)) refl)
+      where
+        go : (o : Outcome) → outcome (view ws) c (call-of k) ≡ o → Gives (record { answer = answer (view ws) c (call-of k); words = encode (next (view ws) c (call-of k)) }) r 0 ws
+        go accepted q = absurd (n (t .is ∙ accepted-zero (view ws) c (call-of k) q))
+        go (refused m) q = record {
+          same-refusal = t .is;
+          same-verdict = ap (λ a. a .verdict) (sym (refused-answer (view ws) c (call-of k) m q));
+          same-words = sym (ap encode (refused-equal (view ws) c (call-of k) m q) ∙ encode-view ws W);
+        }
+
+    pub played-call : {v : ℕ} {vs : List ℕ} → r ≡ 0 → Verdict ws c (call-of k) v → Left ws c (call-of k) vs → Gives (monitor ws b) 0 v vs
+    played-call z u l = rw (given h) (record {
+      same-refusal = sym z ∙ t .is;
+      same-verdict = u .is ∙ sym (accepted-verdict (view ws) c (call-of k) (accepted-of t z));
+      same-words = l .words;
+    })
