@@ -34,6 +34,10 @@ fn open_and_grant(state: &mut [u16]) {
     monitor::call(state, b"\x08\x00\x0d\x00\x01\x05\x00\x02");
 }
 
+fn wide(w: u16) -> u64 {
+    w as u64
+}
+
 fn show(letter: u8, a: Answer) {
     let start = [letter, b' '];
     io::write_all(STDOUT_FILENO, &start);
@@ -89,7 +93,7 @@ fn g_to_l(state: &mut [u16]) {
 fn show_holders(state: &[u16]) {
     if 657 < state.len() {
         io::write_all(STDOUT_FILENO, b"holders ");
-        io::print_decimal(STDOUT_FILENO, state[657] as u64);
+        io::print_decimal(STDOUT_FILENO, wide(state[657]));
         io::write_all(STDOUT_FILENO, b"\n");
     }
 }
