@@ -1,0 +1,8 @@
+-- `lines::put_byte` meets its contract.
+use borrow.Author.Needs.{needs}
+use Rattle.lines.proofs.Writing.{one-more}
+use Rattle.lines.proofs.put_byte.Statement.{statement}
+use Rattle.lines.proofs.put_byte.Tie as tie
+
+pub put-byte-spec : {M : Type 1} → statement M
+put-byte-spec = tie.close (tie.spec (λ c. search needs) (λ c. search needs) (λ c. record { text = search (needs, one-more); len = search needs }))
