@@ -22,7 +22,7 @@ pub same-state : (a b : State) → ((f : Fact) → a .stands f ≡ b .stands f) 
 same-state a b h = λ t. record { stands = λ f. h f t }
 
 module _ {Gone : Fact → Type 0} {a b : State} (x : Clears Gone a b) (f : Fact) where
-  pub remains : b .stands f ≡ true → Gone f → ⊥
+  remains : b .stands f ≡ true → Gone f → ⊥
   remains h g = clash h (x .gone f g)
 
   pub fewer : b .stands f ≡ true → a .stands f ≡ true
@@ -45,7 +45,7 @@ clears-then {c = c} x y = record {
 clears-one : {Gone : Fact → Type 0} {a b c : State} → Clears Gone a b → Clears Gone a c → (f : Fact) → b .stands f ≡ true → c .stands f ≡ true
 clears-one x y f h = y .kept f (remains x f h) ∙ fewer x f h
 
-pub clears-same : {Gone : Fact → Type 0} {a b c : State} → Clears Gone a b → Clears Gone a c → b ≡ c
+clears-same : {Gone : Fact → Type 0} {a b c : State} → Clears Gone a b → Clears Gone a c → b ≡ c
 clears-same {b = b} {c} x y = same-state b c (λ f. same-test (b .stands f) (c .stands f) (clears-one x y f) (clears-one y x f))
 
 -- the facts of P that stand are facts of Q

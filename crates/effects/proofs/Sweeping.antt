@@ -77,8 +77,8 @@ module _ (ws : List ℕ) (i s : ℕ) (whose : Whose) {k : ℕ} (li : i < 16) (ls
 
 -- ---- the sessions one after another
 module _ {i : ℕ} {whose : Whose} {action : Action} where
-  part : {from n from′ n′ : ℕ} → from′ ≤ from → from + n ≤ from′ + n′ → {f : Fact} → Swept i from n whose action f → Swept i from′ n′ whose action f
-  part l m x = record { session = x .session; user = x .user; not-before = omega arith; not-after = omega arith; theirs = x .theirs; lost = x .lost }
+  part : {from n from′ n′ : ℕ} {f : Fact} (x : Swept i from n whose action f) → from′ ≤ x .session → x .session < from′ + n′ → Swept i from′ n′ whose action f
+  part x l m = record { session = x .session; user = x .user; not-before = l; not-after = m; theirs = x .theirs; lost = x .lost }
 
   pub swept-by : (s u : ℕ) {n : ℕ} {f : Fact} → s < n → has whose u ≡ true → Lost i s u action f → Swept i 0 n whose action f
   swept-by s u l e x = record { session = s; user = u; not-before = omega arith; not-after = omega arith; theirs = e; lost = x }
@@ -88,9 +88,9 @@ module _ {i : ℕ} {whose : Whose} {action : Action} where
 
   pub swept-more : (t : ℕ) {ws vs us : List ℕ} → Wiped (Swept i 0 t whose action) ws vs → Wiped (Swept i t 1 whose action) vs us → Wiped (Swept i 0 (t + 1) whose action) ws us
   swept-more t x y =
-      wiped-as (wiped-then x y) (within-either (within (λ f h. part (omega arith) (omega arith))) (within (λ f h. part (omega arith) (omega arith))))
+      wiped-as (wiped-then x y) (within-either (within (λ f h z. part z (omega arith) (omega arith))) (within (λ f h z. part z (omega arith) (omega arith))))
       (within (λ f h z. go z (below-or-not (z .session) t)))
     where
       go : {f : Fact} (z : Swept i 0 (t + 1) whose action f) → (z .session < t) ⊎ (t ≤ z .session) → (Swept i 0 t whose action f) ⊎ (Swept i t 1 whose action f)
-      go z (inl l) = inl (record { session = z .session; user = z .user; not-before = omega arith; not-after = omega arith; theirs = z .theirs; lost = z .lost })
-      go z (inr l) = inr (record { session = z .session; user = z .user; not-before = omega arith; not-after = omega arith; theirs = z .theirs; lost = z .lost })
+      go z (inl l) = inl (part z (omega arith) (omega arith))
+      go z (inr l) = inr (part z (omega arith) (omega arith))

@@ -8,7 +8,7 @@ use Rattle.mtas.specs.Layout.{session-user, address}
 use Rattle.mtas.proofs.Cascades.{cascades}
 use Rattle.effects.specs.Effect.{Accepted, Left}
 use native.Mathlib.Omega.{arith}
-use Rattle.effects.proofs.Accepted.{all-below, small}
+use Rattle.effects.proofs.Accepted.{small}
 use Rattle.effects.proofs.Clearing.{cleared}
 use Rattle.effects.proofs.Pair.{closes}
 use Rattle.effects.proofs.cuts.delete_session.Statement.{statement}
@@ -16,11 +16,10 @@ use Rattle.effects.proofs.cuts.delete_session.Tie as tie
 
 closed : {ws vs : List ℕ} {c s k : ℕ} → Accepted ws c (DeleteSession s) → k ≡ address (session-user c s) → vs ≡ set (set ws k 65535) (k + 1) 0 → Left ws c (DeleteSession s) vs
 closed {ws} {c = c} {s} a p q =
-    let b = all-below a in
-    cleared a (cascades .closes _ _ _ (a .lawful .lawful) (a .passes)) (rw (q, p) (closes ws c s 65535 (a .lawful .long) (b .0) (b .1 .0) refl))
+    cleared a (cascades .closes _ _ _ (a .lawful .lawful) (a .passes)) (rw (q, p) (closes ws c s 65535 (a .lawful .long) (omega (arith, small)) (omega (arith, small)) refl))
 
 pub delete-session-spec : {M : Type 1} → statement M
 delete-session-spec =
     tie.close
     (tie.spec (λ c κs. search needs) (λ c κs. omega (arith, small)) (λ c. search needs)
-    (λ c. closed (c .before .before .before .before .before .before .pre) (c .before .before .before .session .ensures) (c .before .before .set-session .ensures)))
+    (λ c. search (needs, closed)))

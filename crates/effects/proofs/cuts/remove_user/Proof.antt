@@ -17,7 +17,7 @@ use Rattle.effects.specs.declared.sessions.Action.the-variants.{Close}
 use Rattle.effects.specs.Effect.{Accepted, Left}
 use Rattle.effects.specs.Swept.{Lost, closed, emptied, Swept}
 use Rattle.effects.specs.Wiped.{Wiped}
-use Rattle.effects.proofs.Accepted.{all-below, small}
+use Rattle.effects.proofs.Accepted.{small}
 use Rattle.effects.proofs.Clearing.{within, within-either, wiped-as, wiped-then, cleared}
 use Rattle.effects.proofs.Masks.{Told, word-within, bit-within, word-told, bit-told, run-told}
 use Rattle.effects.proofs.Sweeping.{swept-by}
@@ -27,12 +27,11 @@ use Rattle.effects.proofs.cuts.remove_user.Tie as tie
 removed : {ws ws₁ ws₂ vs : List ℕ} {c u k : ℕ} → Accepted ws c (RemoveUser u) → Masked (in-run (users-at + c) 1) (65535 - 2 ^ u) ws ws₁
     → k ≡ address (held c u) → Masked (in-run k 1) 0 ws₁ ws₂ → Wiped (Swept c 0 16 (User u) Close) ws₂ vs → Left ws c (RemoveUser u) vs
 removed {c = c} {u} {k} a x p y z =
-    let b = all-below a in
     cleared a (cascades .removes-user _ _ _ (a .lawful .lawful) (a .passes))
     (wiped-as
-    (wiped-then (run-told (users-at + c) 1 (λ t. users c) (λ t h. omega arith) (omega arith) x)
-    (wiped-then (run-told k 1 (λ t. held c u) (λ t h. omega arith) (omega arith) y) z))
-    (within-either (bit-within (b .1 .0) (λ t h. UserRemoved.the-user))
+    (wiped-then (run-told (users-at + c) 1 (λ t. users c) (λ t h. omega (arith, small)) (omega (arith, small)) x)
+    (wiped-then (run-told k 1 (λ t. held c u) (λ t h. omega (arith, small)) (omega (arith, small)) y) z))
+    (within-either (bit-within (omega (arith, small)) (λ t h. UserRemoved.the-user))
     (within-either (word-within (λ t r h. UserRemoved.what-it-held)) (within (λ f h s. lost (eqb-true (s .user) u (s .theirs)) (s .lost)))))
     (within all))
   where

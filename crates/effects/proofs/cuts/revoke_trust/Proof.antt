@@ -12,7 +12,7 @@ use Rattle.mtas.specs.Cascades.{Withdrawn}
 use Rattle.mtas.specs.Layout.{trusted, holders, seniors, trusted-at, address}
 use Rattle.mtas.proofs.Cascades.{cascades}
 use Rattle.effects.specs.Effect.{Accepted, Left}
-use Rattle.effects.proofs.Accepted.{all-below, small}
+use Rattle.effects.proofs.Accepted.{small}
 use Rattle.effects.proofs.Clearing.{within, within-either, wiped-as, wiped-then, cleared}
 use Rattle.effects.proofs.Masks.{Told, word-within, bit-within, word-told, bit-told, run-told, column-told}
 use Rattle.effects.proofs.cuts.revoke_trust.Statement.{statement}
@@ -21,13 +21,12 @@ use Rattle.effects.proofs.cuts.revoke_trust.Tie as tie
 withdrawn : {ws ws₁ ws₂ vs : List ℕ} {c j k m : ℕ} → Accepted ws c (RevokeTrust j) → Masked (in-run (trusted-at + c) 1) (65535 - 2 ^ j) ws ws₁
     → k ≡ address (holders j 0 c) → Masked (in-column k 16) 0 ws₁ ws₂ → m ≡ address (seniors j 0 c) → Masked (in-column m 16) 0 ws₂ vs → Left ws c (RevokeTrust j) vs
 withdrawn {c = c} {j} {k} {m} a x p y q z =
-    let b = all-below a in
     cleared a (cascades .withdraws-trust _ _ _ (a .lawful .lawful) (a .passes))
     (wiped-as
-    (wiped-then (run-told (trusted-at + c) 1 (λ t. trusted c) (λ t h. omega arith) (omega arith) x)
-    (wiped-then (column-told k 16 (λ t. holders j t c) (λ t h. omega arith) (omega arith) y)
-    (column-told m 16 (λ t. seniors j t c) (λ t h. omega arith) (omega arith) z)))
-    (within-either (bit-within (b .1 .0) (λ t h. Withdrawn.the-trust)) (within-either (word-within (λ t r h. Withdrawn.grants)) (word-within (λ t r h. Withdrawn.attachments))))
+    (wiped-then (run-told (trusted-at + c) 1 (λ t. trusted c) (λ t h. omega (arith, small)) (omega (arith, small)) x)
+    (wiped-then (column-told k 16 (λ t. holders j t c) (λ t h. omega (arith, small)) (omega (arith, small)) y)
+    (column-told m 16 (λ t. seniors j t c) (λ t h. omega (arith, small)) (omega (arith, small)) z)))
+    (within-either (bit-within (omega (arith, small)) (λ t h. Withdrawn.the-trust)) (within-either (word-within (λ t r h. Withdrawn.grants)) (word-within (λ t r h. Withdrawn.attachments))))
     (within all))
   where
     all : (f : Fact) → Below16 (numbers f) → Withdrawn c j f

@@ -17,7 +17,7 @@ use Rattle.effects.specs.declared.sessions.Action.the-variants.{Drop}
 use Rattle.effects.specs.Effect.{Accepted, Left}
 use Rattle.effects.specs.Swept.{Lost, dropped, Swept}
 use Rattle.effects.specs.Wiped.{Wiped}
-use Rattle.effects.proofs.Accepted.{all-below, small}
+use Rattle.effects.proofs.Accepted.{small}
 use Rattle.effects.proofs.Clearing.{within, within-either, wiped-as, wiped-then, cleared}
 use Rattle.effects.proofs.Masks.{Told, bit-within, bit-told, run-told}
 use Rattle.effects.proofs.Sweeping.{swept-by}
@@ -27,11 +27,10 @@ use Rattle.effects.proofs.cuts.revoke_user.Tie as tie
 taken : {ws ws₁ vs : List ℕ} {c u r k : ℕ} → Accepted ws c (RevokeUser u r) → k ≡ address (held c u) → Masked (in-run k 1) (65535 - 2 ^ r) ws ws₁
     → Wiped (Swept c 0 16 (User u) (Drop r)) ws₁ vs → Left ws c (RevokeUser u r) vs
 taken {c = c} {u} {r} {k} a p x y =
-    let b = all-below a in
     cleared a (cascades .takes-role _ _ _ _ (a .lawful .lawful) (a .passes))
     (wiped-as
-    (wiped-then (run-told k 1 (λ t. held c u) (λ t h. omega arith) (omega arith) x) y)
-    (within-either (bit-within (b .1 .1 .0) (λ t h. RoleTaken.the-holding)) (within (λ f h s. lost (eqb-true (s .user) u (s .theirs)) (s .lost))))
+    (wiped-then (run-told k 1 (λ t. held c u) (λ t h. omega (arith, small)) (omega (arith, small)) x) y)
+    (within-either (bit-within (omega (arith, small)) (λ t h. RoleTaken.the-holding)) (within (λ f h s. lost (eqb-true (s .user) u (s .theirs)) (s .lost))))
     (within all))
   where
     lost : {s v : ℕ} {f : Fact} → v ≡ u → Lost c s v (Drop r) f → RoleTaken c u r f
