@@ -9,6 +9,7 @@ use borrow.Author.Tests.{lt-ltb, le-ltb}
 use lib.ListN.{length, getD, length-append, List·getD-append}
 use lib.Seq.{getD-append-seam}
 use Rattle.bits.proofs.Booleans.{below-or-not}
+use Rattle.lines.specs.Text.{field}
 use Rattle.lines.specs.Decimal.{digits, decimal, value-from, value, Spells}
 
 digits-small : (k n : ℕ) → n < 10 → digits (suc k) n ≡ (48 + n) ∷ []
@@ -43,6 +44,9 @@ few (suc w) n h =
     (λ s. let r : length (decimal (n / 10)) ≤ suc w = few w (n / 10) (omega (arith, pow-succ' 10 (suc w))) in
     rw (decimal-step n s) (omega (arith, length-append (decimal (n / 10)) ((48 + n % 10) ∷ []))))
     (below-or-not n 10)
+
+pub few-field : (w n : ℕ) → n < 10 ^ suc w → length (field n) ≤ suc (suc w)
+few-field w n h = omega (arith, few w n h, length-append (decimal n) (32 ∷ []))
 
 value-snoc : (a : ℕ) (l : List ℕ) (d : ℕ) → value-from a (l ++ ((48 + d) ∷ [])) ≡ 10 * value-from a l + d
 unfolding value-from

@@ -13,3 +13,7 @@ text-of (played place kind caller refusal verdict) = field place ++ field kind +
 text-of (end n) = (101 ∷ 110 ∷ 100 ∷ 32 ∷ []) ++ decimal n ++ (10 ∷ [])
 text-of (broken at) = (98 ∷ 114 ∷ 111 ∷ 107 ∷ 101 ∷ 110 ∷ 32 ∷ []) ++ decimal at ++ (10 ∷ [])
 text-of long = 108 ∷ 111 ∷ 110 ∷ 103 ∷ 10 ∷ []
+
+unfoldable pub text-of-all : List Line → List ℕ
+text-of-all [] = []
+text-of-all (l ∷ ls) = text-of l ++ text-of-all ls

@@ -1,9 +1,8 @@
 -- What a buffer holds: the bytes before its len.
 use mathlib.Core.Path.{_≡_}
 use mathlib.Core.List.{List, _++_}
-use Prim.Native.Nat.{ℕ, _+_}
-use lib.ListN.{length, take}
-use lib.Seq.{paste}
+use Prim.Native.Nat.{ℕ, _+_, _≤_}
+use lib.ListN.{length, take, drop}
 use Rattle.lines.specs.declared.Buffer.{Buffer}
 
 abbrev pub written : Buffer → List ℕ
@@ -14,8 +13,15 @@ pub record Put (b r : Buffer) (more : List ℕ) : Type 0 where
   pub text : written r ≡ written b ++ more
   pub len : r .len ≡ b .len + length more
 
--- the line's text stands in the bytes from a place on, all else is as it was, and r is the place behind it
+-- r holds this text and nothing else; every line has room
+pub record Holds (r : Buffer) (text : List ℕ) : Type 0 where
+  pub same : written r ≡ text
+  pub len : r .len ≡ length text
+  pub inside : r .len ≤ 64
+
+-- the line's text stands behind the bytes before a place, what is behind it is as it was, and r is the place behind it
 pub record Appended (at : ℕ) (line : Buffer) (r : ℕ) (before after : List ℕ) : Type 0 where
   pub place : r ≡ at + line .len
-  pub text : after ≡ paste before at (line .bytes) (line .len)
+  pub text : take r after ≡ take at before ++ written line
+  pub behind : drop r after ≡ drop r before
   pub long : length after ≡ length before

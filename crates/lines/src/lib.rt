@@ -6,7 +6,7 @@ ghost use lib.ListN.{length};
 ghost use Rattle.mtas.specs.Journal as Journal;
 ghost use Rattle.lines.specs.Decimal.{decimal};
 ghost use Rattle.lines.specs.Text.{field, text-of};
-ghost use Rattle.lines.specs.Written.{written, Put, Appended};
+ghost use Rattle.lines.specs.Written.{Put, Holds, Appended};
 
 // The first len bytes are what was written; every line fits.
 pub struct Buffer {
@@ -68,10 +68,10 @@ fn put_field(b: Buffer, n: u32) -> Buffer
     put_byte(put_number(b, n), 32)
 }
 
-// The line of a record that was played.
+// The line of a record that was played. Where its place has five digits at most, it has 28 bytes at most.
 pub fn played(place: u32, kind: u16, caller: u8, refusal: u16, verdict: u16) -> Buffer
-    ensures { λ r. ⌜ written r ≡ text-of (Journal.played place kind caller refusal verdict) ⌝ }
-    ensures { λ r. ⌜ r .len ≤ 64 ⌝ }
+    ensures { λ r. ⌜ Holds r (text-of (Journal.played place kind caller refusal verdict)) ⌝ }
+    ensures { λ r. ⌜ (place < 100000 → r .len ≤ 28) ⌝ }
 {
     let a = put_field(empty(), place);
     let b = put_field(a, kind as u32);
@@ -82,8 +82,7 @@ pub fn played(place: u32, kind: u16, caller: u8, refusal: u16, verdict: u16) -> 
 
 // The last line of a journal of n records.
 pub fn end(n: u32) -> Buffer
-    ensures { λ r. ⌜ written r ≡ text-of (Journal.end n) ⌝ }
-    ensures { λ r. ⌜ r .len ≤ 64 ⌝ }
+    ensures { λ r. ⌜ Holds r (text-of (Journal.end n)) ⌝ }
 {
     let a = put_word(empty(), b"end ");
     put_byte(put_number(a, n), 10)
@@ -91,8 +90,7 @@ pub fn end(n: u32) -> Buffer
 
 // The last line of a journal with a record that is not whole, at this byte place.
 pub fn broken(at: u32) -> Buffer
-    ensures { λ r. ⌜ written r ≡ text-of (Journal.broken at) ⌝ }
-    ensures { λ r. ⌜ r .len ≤ 64 ⌝ }
+    ensures { λ r. ⌜ Holds r (text-of (Journal.broken at)) ⌝ }
 {
     let a = put_word(empty(), b"broken ");
     put_byte(put_number(a, at), 10)
@@ -100,15 +98,14 @@ pub fn broken(at: u32) -> Buffer
 
 // The only line of a journal that is too long.
 pub fn long() -> Buffer
-    ensures { λ r. ⌜ written r ≡ text-of Journal.long ⌝ }
-    ensures { λ r. ⌜ r .len ≤ 64 ⌝ }
+    ensures { λ r. ⌜ Holds r (text-of Journal.long) ⌝ }
 {
     put_word(empty(), b"long\n")
 }
 
 // Puts a line's text into out at a place, and answers the place behind it.
 pub fn append(out: &mut [u8], at: usize, line: Buffer) -> usize
-    requires { ⌜ (line .len ≤ 64) × (at + 64 ≤ length (now out)) ⌝ }
+    requires { ⌜ (line .len ≤ 64) × (at + line .len ≤ length (now out)) ⌝ }
     ensures { λ r. ⌜ Appended at line r (now (out .entry)) (now (out .exit)) ⌝ }
 {
     let bytes = line.bytes;

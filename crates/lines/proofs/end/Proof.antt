@@ -8,11 +8,10 @@ use Rattle.lines.proofs.end.Tie as tie
 
 returns : tie.Need-returns
 unfolding text-of
-returns c = (
-  from-empty (c .before .before .before .before .empty .ensures)
-      (put-both (put-both (c .before .before .put-word .ensures) (c .before .put-number .ensures .0)) (c .put-byte .ensures)),
-  omega arith,
-)
+returns c =
+    from-empty (c .before .before .before .before .empty .ensures)
+    (put-both (put-both (c .before .before .put-word .ensures) (c .before .put-number .ensures .0)) (c .put-byte .ensures))
+    (omega arith)
 
 pub end-spec : {M : Type 1} → statement M
 end-spec = tie.close (tie.spec (λ c κs. search needs) (λ c. search needs) (λ c κs. search needs) (λ c κs. search needs) (λ c κs. search needs) returns)

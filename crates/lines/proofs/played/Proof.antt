@@ -2,6 +2,7 @@
 use borrow.Author.Needs.{needs}
 use native.Mathlib.Omega.{arith}
 use Rattle.lines.specs.Text.{text-of}
+use Rattle.lines.proofs.Decimal.{few, few-field}
 use Rattle.lines.proofs.Writing.{put-both, from-empty}
 use Rattle.lines.proofs.played.Statement.{statement}
 use Rattle.lines.proofs.played.Tie as tie
@@ -19,8 +20,21 @@ returns c = (
       (c .before .before .before .put-field3 .ensures .0))
       (c .before .before .put-field4 .ensures .0))
       (c .before .put-number .ensures .0))
-      (c .put-byte .ensures)),
-  omega arith,
+      (c .put-byte .ensures))
+      (omega arith),
+  λ h. omega (
+    arith,
+    few-field 4 (c .before .before .before .before .before .before .before .args .place) h,
+    few-field 4 (c .before .before .before .before .before .before .before .args .kind) (omega arith),
+    few-field 2 (c .before .before .before .before .before .before .before .args .caller) (omega arith),
+    few-field 4 (c .before .before .before .before .before .before .before .args .refusal) (omega arith),
+    few 4 (c .before .before .before .before .before .before .before .args .verdict) (omega arith),
+    c .before .before .before .before .before .put-field .ensures .0 .len,
+    c .before .before .before .before .put-field2 .ensures .0 .len,
+    c .before .before .before .put-field3 .ensures .0 .len,
+    c .before .before .put-field4 .ensures .0 .len,
+    c .before .put-number .ensures .0 .len,
+  ),
 )
 
 pub played-spec : {M : Type 1} → statement M
