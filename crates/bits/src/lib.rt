@@ -32,6 +32,13 @@ pub fn without_bit(w: u16, n: u8) -> u16
     w & !(1u16 << n)
 }
 
+// A word from its two bytes, the low one first.
+pub fn two_bytes(low: u8, high: u8) -> u16
+    ensures { λ r. ⌜ r ≡ low + 256 * high ⌝ }
+{
+    low as u16 + 256 * (high as u16)
+}
+
 // A set of roles: a word for each issuer, with bit r for role r.
 pub struct RoleSet {
     pub words: [u16; 16],

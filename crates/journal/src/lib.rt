@@ -1,6 +1,6 @@
 // The journal reader: a journal is records end to end, and each is handed back as a part of the journal's own bytes.
 ghost use mathlib.Core.Path.{_≡_};
-ghost use Prim.Native.Nat.{_+_, _-_, _*_, _≤_};
+ghost use Prim.Native.Nat.{_+_, _-_, _≤_};
 ghost use lib.ListN.{length, take, drop, getD};
 ghost use Rattle.mtas.specs.Record.{kind-of, caller-of};
 ghost use Rattle.mtas.specs.Journal.{first-of};
@@ -11,13 +11,6 @@ pub enum Found {
     NoMore,
     Whole(usize),
     Partial,
-}
-
-// A number of 2 bytes, little-endian.
-fn two_bytes(low: u8, high: u8) -> u16
-    ensures { λ r. ⌜ r ≡ low + 256 * high ⌝ }
-{
-    low as u16 + 256 * (high as u16)
 }
 
 // How many bytes there are from a place on.
@@ -43,7 +36,7 @@ pub fn first_of(journal: &[u8], at: usize) -> Found
     if left < 2 {
         return Found::Partial;
     }
-    let len = two_bytes(journal[at], journal[at + 1]) as usize;
+    let len = bits::two_bytes(journal[at], journal[at + 1]) as usize;
     if len < 5 {
         return Found::Partial;
     }
@@ -65,7 +58,7 @@ pub fn part(journal: &[u8], at: usize, len: usize) -> &[u8]
 pub fn kind_of(record: &[u8]) -> u16
     ensures { λ r. ⌜ r ≡ kind-of (now («record» .entry)) ⌝ }
 {
-    two_bytes(byte_at(record, 2), byte_at(record, 3))
+    bits::two_bytes(byte_at(record, 2), byte_at(record, 3))
 }
 
 // A record's caller, or 0 where the byte is missing.

@@ -8,7 +8,7 @@ use lib.ListN.{length, getD, take, set, length-append}
 use lib.Seq.{take-all, take-suc, take-suc-set}
 use Rattle.lines.specs.declared.Buffer.{Buffer}
 use Rattle.lines.specs.Decimal.{decimal}
-use Rattle.lines.specs.Written.{written, Put, Holds}
+use Rattle.lines.specs.Written.{written, Put, Exactly}
 use Rattle.lines.proofs.Decimal.{decimal-small, decimal-step, few}
 
 pub one-more : (l : List ℕ) (n x : ℕ) → n < length l → take (n + 1) (set l n x) ≡ take n l ++ (x ∷ [])
@@ -31,7 +31,7 @@ put-next w i p q h = rw (add-one, take-suc w i 0) (put-both p q)
 pub put-all : {a b : Buffer} (w : List ℕ) (i : ℕ) → Put a b (take i w) → length w ≤ i → Put a b w
 put-all w i p h = rw (take-all i w h) at p
 
-pub from-empty : {a b : Buffer} {t : List ℕ} → a .len ≡ 0 → Put a b t → b .len ≤ 64 → Holds b t
+pub from-empty : {a b : Buffer} {t : List ℕ} → a .len ≡ 0 → Put a b t → b .len ≤ 64 → Exactly b t
 from-empty {a} {b} {t} e p h = record { same = p .text ∙ ap (λ n. take n (a .bytes) ++ t) e; len = omega arith; inside = h }
 
 -- a number of one digit

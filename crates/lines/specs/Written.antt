@@ -13,8 +13,8 @@ pub record Put (b r : Buffer) (more : List ℕ) : Type 0 where
   pub text : written r ≡ written b ++ more
   pub len : r .len ≡ b .len + length more
 
--- r holds this text and nothing else; every line has room
-pub record Holds (r : Buffer) (text : List ℕ) : Type 0 where
+-- r holds exactly this text; every line has room
+pub record Exactly (r : Buffer) (text : List ℕ) : Type 0 where
   pub same : written r ≡ text
   pub len : r .len ≡ length text
   pub inside : r .len ≤ 64

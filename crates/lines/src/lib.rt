@@ -6,7 +6,7 @@ ghost use lib.ListN.{length};
 ghost use Rattle.mtas.specs.Journal as Journal;
 ghost use Rattle.lines.specs.Decimal.{decimal};
 ghost use Rattle.lines.specs.Text.{field, text-of};
-ghost use Rattle.lines.specs.Written.{Put, Holds, Appended};
+ghost use Rattle.lines.specs.Written.{Put, Exactly, Appended};
 
 // The first len bytes are what was written; every line fits.
 pub struct Buffer {
@@ -70,7 +70,7 @@ fn put_field(b: Buffer, n: u32) -> Buffer
 
 // The line of a record that was played. Where its place has five digits at most, it has 28 bytes at most.
 pub fn played(place: u32, kind: u16, caller: u8, refusal: u16, verdict: u16) -> Buffer
-    ensures { λ r. ⌜ Holds r (text-of (Journal.played place kind caller refusal verdict)) ⌝ }
+    ensures { λ r. ⌜ Exactly r (text-of (Journal.played place kind caller refusal verdict)) ⌝ }
     ensures { λ r. ⌜ (place < 100000 → r .len ≤ 28) ⌝ }
 {
     let a = put_field(empty(), place);
@@ -82,7 +82,7 @@ pub fn played(place: u32, kind: u16, caller: u8, refusal: u16, verdict: u16) -> 
 
 // The last line of a journal of n records.
 pub fn end(n: u32) -> Buffer
-    ensures { λ r. ⌜ Holds r (text-of (Journal.end n)) ⌝ }
+    ensures { λ r. ⌜ Exactly r (text-of (Journal.end n)) ⌝ }
 {
     let a = put_word(empty(), b"end ");
     put_byte(put_number(a, n), 10)
@@ -90,7 +90,7 @@ pub fn end(n: u32) -> Buffer
 
 // The last line of a journal with a record that is not whole, at this byte place.
 pub fn broken(at: u32) -> Buffer
-    ensures { λ r. ⌜ Holds r (text-of (Journal.broken at)) ⌝ }
+    ensures { λ r. ⌜ Exactly r (text-of (Journal.broken at)) ⌝ }
 {
     let a = put_word(empty(), b"broken ");
     put_byte(put_number(a, at), 10)
@@ -98,7 +98,7 @@ pub fn broken(at: u32) -> Buffer
 
 // The only line of a journal that is too long.
 pub fn long() -> Buffer
-    ensures { λ r. ⌜ Holds r (text-of Journal.long) ⌝ }
+    ensures { λ r. ⌜ Exactly r (text-of Journal.long) ⌝ }
 {
     put_word(empty(), b"long\n")
 }

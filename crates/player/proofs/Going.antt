@@ -12,7 +12,7 @@ use Rattle.mtas.specs.Monitor.{monitor, initial-words, start}
 use Rattle.mtas.specs.Histories.{final}
 use Rattle.mtas.specs.Journal.{Ending, complete, broken-at, Reading, no-more, whole, partial, first-of, read-from, Line, played, end, broken, long, line-of, lines-from, last-line, output, read-journal}
 use Rattle.lines.specs.Text.{text-of, text-of-all}
-use Rattle.lines.specs.Written.{written, Holds, Appended}
+use Rattle.lines.specs.Written.{written, Exactly, Appended}
 use Rattle.lines.specs.declared.Buffer.{Buffer}
 use Rattle.mtas.specs.Record.{kind-of, caller-of}
 use Rattle.monitor.specs.Contract.{Gives}
@@ -96,7 +96,7 @@ going-start ws {journal} n v l m =
 pub going-next : (journal ws bytes : List ℕ) {ws′ out out′ : List ℕ} {used used′ at count len kind caller refusal verdict : ℕ} {line : Buffer} → Going journal ws out used at count
     → first-of (drop at journal) ≡ whole len → (5 ≤ len) × (at + len ≤ length journal) → bytes ≡ take len (drop at journal)
     → Gives (monitor ws bytes) refusal verdict ws′ → kind ≡ kind-of bytes → caller ≡ caller-of bytes
-    → Holds line (text-of (played (count + 1) kind caller refusal verdict)) × (count + 1 < 100000 → line .len ≤ 28) → Appended used line used′ out out′
+    → Exactly line (text-of (played (count + 1) kind caller refusal verdict)) × (count + 1 < 100000 → line .len ≤ 28) → Appended used line used′ out out′
     → Going journal ws′ out′ used′ (at + len) (count + 1)
 unfolding text-of-all final
 going-next journal ws bytes {ws′} {out} {out′} {used} {used′} {at} {count} {len} {kind} {caller} {refusal} {verdict} {line} g f (l, m) eb v ek ec (w, u) a =
@@ -120,7 +120,7 @@ going-next journal ws bytes {ws′} {out} {out′} {used} {used′} {at} {count}
 
 -- no record more: the last line ends the text
 going-ends : {before journal ws out out′ : List ℕ} {used used′ at count : ℕ} {e : Ending} {line : Buffer} → Going journal ws out used at count
-    → rest journal at count ≡ record { records = []; ending = e } → Holds line (text-of (last count (record { records = []; ending = e })))
+    → rest journal at count ≡ record { records = []; ending = e } → Exactly line (text-of (last count (record { records = []; ending = e })))
     → Appended used line used′ out out′ → Played before journal ws used′ out′
 unfolding text-of-all final to-come lines-from left-by
 going-ends {journal = journal} {ws} {out} {used = used} {count = count} {e} g r w a =
@@ -132,17 +132,17 @@ going-ends {journal = journal} {ws} {out} {used = used} {count = count} {e} g r 
     }
 
 pub going-end : {before journal ws out out′ : List ℕ} {used used′ at count : ℕ} {line : Buffer} → Going journal ws out used at count → first-of (drop at journal) ≡ no-more
-    → Holds line (text-of (end count)) → Appended used line used′ out out′ → Played before journal ws used′ out′
+    → Exactly line (text-of (end count)) → Appended used line used′ out out′ → Played before journal ws used′ out′
 going-end {journal = journal} {at = at} {count} g f w a =
     let e : count ≡ count + 0 = omega arith in
     going-ends g (rest-none journal at count f) (rw e at w) a
 
 pub going-broken : {before journal ws out out′ : List ℕ} {used used′ at count : ℕ} {line : Buffer} → Going journal ws out used at count → first-of (drop at journal) ≡ partial
-    → Holds line (text-of (broken at)) → Appended used line used′ out out′ → Played before journal ws used′ out′
+    → Exactly line (text-of (broken at)) → Appended used line used′ out out′ → Played before journal ws used′ out′
 going-broken {journal = journal} {at = at} {count} g f w a = going-ends g (rest-partial journal at count f) w a
 
 -- a journal that is too long isn't played
-pub too-long : {ws journal out out′ : List ℕ} {used : ℕ} {line : Buffer} → 65536 < length journal → length out ≡ room → Holds line (text-of long) → Appended 0 line used out out′ → Played ws journal ws used out′
+pub too-long : {ws journal out out′ : List ℕ} {used : ℕ} {line : Buffer} → 65536 < length journal → length out ≡ room → Exactly line (text-of long) → Appended 0 line used out out′ → Played ws journal ws used out′
 unfolding output left-by text-of-all
 too-long {ws} {journal} l m w a =
     record {

@@ -1,7 +1,6 @@
 // The call record: its bytes decoded into a caller and one of twenty-one calls.
 ghost use mathlib.Core.Path.{_≡_};
 ghost use mathlib.Core.List.{[], _∷_};
-ghost use Prim.Native.Nat.{_+_, _*_};
 ghost use Rattle.mtas.specs.Record.{form-of, fill, decode};
 ghost use Rattle.record.specs.Decoded.{request-of};
 
@@ -34,13 +33,6 @@ pub enum Call {
 pub enum Decoded {
     Request(u8, Call),
     Undecodable,
-}
-
-// A number of 2 bytes, little-endian.
-fn two_bytes(low: u8, high: u8) -> u16
-    ensures { λ r. ⌜ r ≡ low + 256 * high ⌝ }
-{
-    low as u16 + 256 * (high as u16)
 }
 
 // The request of a kind with one argument; undecodable where the kind is no such.
@@ -99,10 +91,10 @@ pub fn decode(record: &[u8]) -> Decoded
     if length < 5 {
         return Decoded::Undecodable;
     }
-    if two_bytes(record[0], record[1]) as usize != length {
+    if bits::two_bytes(record[0], record[1]) as usize != length {
         return Decoded::Undecodable;
     }
-    let kind = two_bytes(record[2], record[3]);
+    let kind = bits::two_bytes(record[2], record[3]);
     let caller = record[4];
     match length {
         6 => one(kind, caller, record[5]),
