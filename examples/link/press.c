@@ -1,0 +1,47 @@
+/* Two estates and a press: estate 1 lends estate 0 a permission under 0's trust, until 0 withdraws it.
+   From the repository's root:
+
+       rt staticlib yermoitu
+       gcc -std=c11 -O2 -Wall -Wextra -Werror -Iinclude examples/link/press.c target/staticlib/libyermoitu.a -o target/press-c
+       target/press-c
+*/
+#include "yermoitu.h"
+#include <stdio.h>
+
+/* A record's first byte is its length, since no call is longer than 8 bytes. */
+struct step {
+    const char *says;
+    uint8_t record[8];
+};
+
+static const struct step story[] = {
+    {"the operator enrols 0", {6, 0, 1, 0, 16, 0}},
+    {"the operator enrols 1", {6, 0, 1, 0, 16, 1}},
+    {"0 adds role 2", {6, 0, 7, 0, 0, 2}},
+    {"0 adds user 3", {6, 0, 5, 0, 0, 3}},
+    {"0 gives user 3 role 2", {7, 0, 11, 0, 0, 3, 2}},
+    {"0 opens session 4 for user 3", {7, 0, 17, 0, 0, 4, 3}},
+    {"0 activates role 2 in session 4", {7, 0, 19, 0, 0, 4, 2}},
+    {"1 adds permission 5", {6, 0, 9, 0, 1, 5}},
+    {"1 grants 5 to 0's role 2, untrusted", {8, 0, 13, 0, 1, 5, 0, 2}},
+    {"0 trusts 1", {6, 0, 3, 0, 0, 1}},
+    {"1 grants 5 to 0's role 2", {8, 0, 13, 0, 1, 5, 0, 2}},
+    {"may 0's session 4 use 5?", {8, 0, 21, 0, 1, 5, 0, 4}},
+    {"0 withdraws its trust in 1", {6, 0, 4, 0, 0, 1}},
+    {"may 0's session 4 use 5?", {8, 0, 21, 0, 1, 5, 0, 4}},
+};
+
+static void show(const char *says, uint64_t answer)
+{
+    printf("%-36s refusal %u verdict %u\n", says, YERMOITU_REFUSAL(answer), YERMOITU_VERDICT(answer));
+}
+
+int main(void)
+{
+    static uint16_t state[YERMOITU_WORDS];
+
+    show("start", yermoitu_start(state, YERMOITU_WORDS));
+    for (size_t i = 0; i < sizeof story / sizeof *story; i++)
+        show(story[i].says, yermoitu_call(state, YERMOITU_WORDS, story[i].record, story[i].record[0]));
+    return 0;
+}

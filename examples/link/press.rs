@@ -1,0 +1,48 @@
+// The story of press.c, told from Rust.
+// From the repository's root:
+//
+//     rt staticlib yermoitu
+//     rustc --edition 2021 -O -D warnings -L native=target/staticlib -l static=yermoitu examples/link/press.rs -o target/press-rs
+//     target/press-rs
+
+extern "C" {
+    fn yermoitu_start(state: *mut u16, words: usize) -> u64;
+    fn yermoitu_call(state: *mut u16, words: usize, record: *const u8, bytes: usize) -> u64;
+}
+
+// A slice is valid for its length and a `&mut` overlaps nothing: all that the two functions ask.
+fn start(state: &mut [u16]) -> u64 {
+    unsafe { yermoitu_start(state.as_mut_ptr(), state.len()) }
+}
+
+fn call(state: &mut [u16], record: &[u8]) -> u64 {
+    unsafe { yermoitu_call(state.as_mut_ptr(), state.len(), record.as_ptr(), record.len()) }
+}
+
+fn show(says: &str, answer: u64) {
+    println!("{says:<36} refusal {} verdict {}", answer & 0xffff, answer >> 16 & 0xffff);
+}
+
+fn main() {
+    let mut state = vec![0; 9025];
+    show("start", start(&mut state));
+    let story: [(&str, &[u8]); 14] = [
+        ("the operator enrols 0", &[6, 0, 1, 0, 16, 0]),
+        ("the operator enrols 1", &[6, 0, 1, 0, 16, 1]),
+        ("0 adds role 2", &[6, 0, 7, 0, 0, 2]),
+        ("0 adds user 3", &[6, 0, 5, 0, 0, 3]),
+        ("0 gives user 3 role 2", &[7, 0, 11, 0, 0, 3, 2]),
+        ("0 opens session 4 for user 3", &[7, 0, 17, 0, 0, 4, 3]),
+        ("0 activates role 2 in session 4", &[7, 0, 19, 0, 0, 4, 2]),
+        ("1 adds permission 5", &[6, 0, 9, 0, 1, 5]),
+        ("1 grants 5 to 0's role 2, untrusted", &[8, 0, 13, 0, 1, 5, 0, 2]),
+        ("0 trusts 1", &[6, 0, 3, 0, 0, 1]),
+        ("1 grants 5 to 0's role 2", &[8, 0, 13, 0, 1, 5, 0, 2]),
+        ("may 0's session 4 use 5?", &[8, 0, 21, 0, 1, 5, 0, 4]),
+        ("0 withdraws its trust in 1", &[6, 0, 4, 0, 0, 1]),
+        ("may 0's session 4 use 5?", &[8, 0, 21, 0, 1, 5, 0, 4]),
+    ];
+    for (says, record) in story {
+        show(says, call(&mut state, record));
+    }
+}

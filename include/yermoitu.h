@@ -1,0 +1,55 @@
+/* Yermoitu, the press portal's reference monitor, for programs in C and C++.
+
+   `rt staticlib yermoitu` proves the monitor and writes target/staticlib/libyermoitu.a, for x86-64
+   Linux. Link it behind your own files. It has no variables of its own, takes no memory from the
+   heap, needs about 9 KB of stack, and calls nothing but memcpy and memset.
+
+   A state is YERMOITU_WORDS unsigned 16-bit words that the caller lends for each call. A call is a
+   record of bytes: its length (2 bytes, the low byte first, counting the whole record), its kind (2
+   bytes, likewise), the caller (1 byte; 16 is the operator) and its arguments (1 byte each).
+
+   An answer is one number: the refusal in bits 0 to 15, the verdict in bits 16 to 31, and 0 above.
+   The refusal is 0 where the call was accepted, else the number of the first cause, 1 to 13. The
+   verdict is 1 where kind 21 was accepted and the session may use the permission, else 0.
+
+   What the caller owes, since nothing can test it:
+   - where `words` is YERMOITU_WORDS, `state` points to so many words, aligned as uint16_t is, each
+     written before with any value; where it is another number, `state` is not used and may be null;
+   - `record` points to `bytes` bytes, and may be null where `bytes` is 0; none of them lies in the
+     state's words;
+   - nobody else reads or writes the state, or writes the record, until the function returns: calls
+     on one state come one after the other, calls on different states may run at the same time.
+
+   What it gets: each function returns, whatever the words, the bytes and the two numbers are. It
+   writes to the state's words and to nothing else that the caller has. It reads no byte outside the
+   words and the record. */
+#ifndef YERMOITU_H
+#define YERMOITU_H
+
+#include <stddef.h>
+#include <stdint.h>
+
+#define YERMOITU_WORDS 9025
+
+/* The two numbers of an answer. */
+#define YERMOITU_REFUSAL(answer) ((unsigned)((uint64_t)(answer) & 0xffff))
+#define YERMOITU_VERDICT(answer) ((unsigned)((uint64_t)(answer) >> 16 & 0xffff))
+
+#ifdef __cplusplus
+extern "C" {
+#endif
+
+/* Starts a state: nothing enrolled, every session closed. Whatever the words were is lost.
+   Refusal 0, or 1 where `words` is not YERMOITU_WORDS, and then nothing is written. */
+uint64_t yermoitu_start(uint16_t *state, size_t words);
+
+/* Plays a record on a state. Where the refusal is not 0, no word is changed.
+   Among the refusals: 1 where `words` is not YERMOITU_WORDS, 2 where the words are no lawful state,
+   such as zeros that were never started, 3 where the bytes are no call record, no bytes included. */
+uint64_t yermoitu_call(uint16_t *state, size_t words, const uint8_t *record, size_t bytes);
+
+#ifdef __cplusplus
+}
+#endif
+
+#endif
