@@ -1,20 +1,17 @@
 -- The walk's set is what the definitions' tests ask for.
-use mathlib.Core.Path.{_≡_, refl, ap, sym, _∙_}
-use mathlib.Core.Bool.{Bool, true, not, _&&_, _||_}
+use mathlib.Core.Path.{_≡_, refl, ap, sym, subst, _∙_}
+use mathlib.Core.Logic.{_↔_, _⊎_, inl, inr}
+use mathlib.Core.Bool.{Bool, true, false, not, _&&_, _||_}
 use mathlib.Core.List.{List}
 use Prim.Native.Nat.{ℕ, _+_, _*_, _<_}
 use lib.Bits.{bitAnd}
 use lib.Dec.{eqb}
-use lib.ListN.{getD, set, take, drop, replicate}
-use lib.Seq.{getD-set-same, getD-set-other}
-use native.Mathlib.Decide.{ℕ-discrete}
+use lib.ListN.{getD, take, drop}
 use borrow.Author.Tests.{eq-eqb, ne-eqb, eqb-true, eqb-false, not-true}
-use Rattle.bits.specs.Bit.{bit, with-bit}
-use Rattle.bits.specs.Gather.{gather}
-use Rattle.bits.specs.RoleSet.{in-set}
-use Rattle.bits.proofs.Booleans.{and-left, and-right, and-intro, same-test}
-use Rattle.bits.proofs.Bit.{bit-0, bit-with}
-use Rattle.bits.proofs.Roles.{in-empty}
+use Rattle.bits.specs.Bit.{bit}
+use Rattle.bits.specs.RoleSet.{in-set, Row, Added}
+use Rattle.bits.proofs.Booleans.{clash, and-left, and-right, and-intro, or-cases, or-right, same-test}
+use Rattle.bits.proofs.Gather.{common-bit}
 use Rattle.mtas.specs.Fact.{granted, opened, active}
 use Rattle.mtas.specs.State.{user-of}
 use Rattle.mtas.specs.Hierarchy.{Role, _#_, Graph, Reaches, reaches}
@@ -28,75 +25,57 @@ use Rattle.mtas.proofs.Law.{attachments-numbered}
 use Rattle.mtas.proofs.Decision.{may-use-iff}
 use Rattle.mtas.proofs.Sessions.{user-is}
 use Rattle.mtas.proofs.Words.{view-says}
-use Rattle.hierarchy.specs.Links.{linked, among, ReachedFrom}
+use Rattle.hierarchy.specs.Links.{linked, among, Reaching, ReachesInto}
 use Rattle.hierarchy.proofs.Links.{linked-attachments}
-use Rattle.hierarchy.proofs.Rows.{Wide, row-meets}
-use Rattle.answers.specs.Reach.{RolesOf, ReachedBy}
 use Rattle.answers.proofs.Told.{active-read}
 
--- one word of sixteen
-pub word-alone : {i w : ℕ} → i < 16 → RolesOf i w (set (replicate 16 0) i w)
-word-alone {i} {w} h = record { each = λ j q. go j q (ℕ-discrete j i) }
-  where
-    go : (j q : ℕ) → Dec (j ≡ i) → in-set (set (replicate 16 0) i w) j q ≡ eqb i j && bit w q
-    go j q (yes e) = rw (e, eq-eqb i i refl, getD-set-same (replicate 16 0) i w 0 h)
-    go j q (no n) = rw (ne-eqb i j (λ e. n (sym e)), getD-set-other (replicate 16 0) i j w 0 n) (in-empty j q)
-
--- a role of that set is one of i's
-its-issuer : {from : List ℕ} {i w : ℕ} → RolesOf i w from → (a : Role) → among from a ≡ true → (i ≡ a .issuer) × (bit w (a .number) ≡ true)
-its-issuer {i = i} {w} f a e =
-    let p = sym (f .each (a .issuer) (a .number)) ∙ e in
-    (eqb-true i (a .issuer) (and-left (eqb i (a .issuer)) (bit w (a .number)) p), and-right (eqb i (a .issuer)) (bit w (a .number)) p)
-
 -- the copy's links are the attachments that stand
-pub reached-by : (ws copy : List ℕ) {from found : List ℕ} {i w : ℕ} → copy ≡ take 4096 (drop 4417 ws) → i < 16 → RolesOf i w from → ReachedFrom (linked copy) from found → ReachedBy ws i w found
-reached-by ws copy {from} {i = i} {w} e h f r = record {
-  sound = λ b l m t. back b (r .sound b l m t);
-  complete = λ q b l t p. r .complete (i # q) b h l (f .each i q ∙ and-intro (eqb i i) (bit w q) (eq-eqb i i refl) t) (rw same-links p);
-}
-  where
-    same-links : linked copy ≡ attachments (view ws)
-    same-links = ap linked e ∙ linked-attachments ws
+pub reach-told : (ws copy : List ℕ) {set found : List ℕ} → copy ≡ take 4096 (drop 4417 ws) → Reaching (linked copy) set found → Reaching (attachments (view ws)) set found
+reach-told ws copy {set} {found} e r = subst (λ g. Reaching g set found) (ap linked e ∙ linked-attachments ws) r
 
-    back : (b : Role) → (a : Role) × (a .issuer < 16) × (a .number < 16) × (among from a ≡ true) × Reaches (linked copy) a b
-        → (q : ℕ) × (q < 16) × (bit w q ≡ true) × Reaches (attachments (view ws)) (i # q) b
-    back b (a, la, lq, t, p) =
-        let (same, on) = its-issuer f a t in
-        (a .number, lq, on, rw (same-links, ← same) at p)
+-- a set of one role
+module _ {i r : ℕ} {none one : List ℕ} (empty : (j q : ℕ) → in-set none j q ≡ false) (ad : Added i r none one) where
+  the-one : among one (i # r) ≡ true
+  the-one = ad .each i r ∙ or-right (in-set none i r) _ (and-intro (eqb i i) (eqb r r) (eq-eqb i i refl) (eq-eqb r r refl))
 
-one-bit : (q n : ℕ) → bit (with-bit 0 q) n ≡ eqb q n
-one-bit q n = bit-with 0 q n ∙ ap (λ b. b || eqb q n) (bit-0 n)
+  only-one : (b : Role) → among one b ≡ true → i # r ≡ b
+  only-one b h = go (or-cases (among none b) (eqb i (b .issuer) && eqb r (b .number)) (sym (ad .each (b .issuer) (b .number)) ∙ h))
+    where
+      go : (among none b ≡ true) ⊎ (eqb i (b .issuer) && eqb r (b .number) ≡ true) → i # r ≡ b
+      go (inl x) = absurd (clash x (empty (b .issuer) (b .number)))
+      go (inr x) =
+          let p : i ≡ b .issuer = eqb-true _ _ (and-left (eqb i (b .issuer)) (eqb r (b .number)) x) in
+          let q : r ≡ b .number = eqb-true _ _ (and-right (eqb i (b .issuer)) (eqb r (b .number)) x) in
+          λ t. p t # q t
 
 module _ {ws : List ℕ} (W : LawfulWords ws) where
   abbrev links : Graph
   links = attachments (view ws)
 
-  pub reaches-told : {j q i r w : ℕ} {found : List ℕ} {b : Bool} → q < 16 → i < 16 → r < 16 → w ≡ with-bit 0 q → ReachedBy ws j w found → b ≡ in-set found i r
-      → b ≡ reaches links (j # q) (i # r)
-  reaches-told {j} {q} {i} {r} {w} lq li lr ew f e =
-      e ∙ same-test _ _ (λ x. go (f .sound (i # r) li lr x))
-      (λ x. f .complete q (i # r) lq (ap (λ v. bit v q) ew ∙ one-bit q q ∙ eq-eqb q q refl) (reaches-sound links (j # q) (i # r) x))
+  pub reaches-told : {j q i r : ℕ} {none one found : List ℕ} {b : Bool} → j < 16 → q < 16 → i < 16 → r < 16 → ((j q : ℕ) → in-set none j q ≡ false) → Added i r none one
+      → Reaching links one found → b ≡ in-set found j q → b ≡ reaches links (j # q) (i # r)
+  reaches-told {j} {q} {i} {r} {one = one} lj lq li lr empty ad f e =
+      e ∙ same-test _ _ (λ x. go (f .sound (j # q) lj lq x)) (λ x. f .complete (j # q) (i # r) li lr (the-one empty ad) (reaches-sound links (j # q) (i # r) x))
     where
-      go : (n : ℕ) × (n < 16) × (bit w n ≡ true) × Reaches links (j # n) (i # r) → reaches links (j # q) (i # r) ≡ true
-      go (n, l, on, p) =
-          let same : q ≡ n = eqb-true q n (sym (one-bit q n) ∙ ap (λ v. bit v n) (sym ew) ∙ on) in
-          reaches-complete links (attachments-numbered (view ws) (W .lawful .numbered)) (rw same p)
+      go : ReachesInto links one (j # q) → reaches links (j # q) (i # r) ≡ true
+      go (b, _, _, h, p) =
+          reaches-complete links (attachments-numbered (view ws) (W .lawful .numbered)) (subst (λ c. Reaches links (j # q) c) (sym (only-one empty ad b h)) p)
 
-  module _ {j p i s : ℕ} (lj : j < 16) (lp : p < 16) (li : i < 16) (ls : s < 16) {found : List ℕ} (f : ReachedBy ws i (read ws (active-roles i s)) found) (wide : Wide found) where
-    abbrev row : ℕ
-    row = holders-at + 16 * (16 * j + p)
+  -- the walk upwards from the roles that hold j%p
+  module _ {j p i s : ℕ} (lj : j < 16) (lp : p < 16) (li : i < 16) (ls : s < 16) {holders found : List ℕ}
+      (is-row : Row ws (holders-at + 16 * (16 * j + p)) holders) (f : Reaching links holders found) where
+    in-row : (a : Role) → a .issuer < 16 → a .number < 16 → among holders a ≡ (view ws) .stands (granted j p (a .issuer) (a .number))
+    in-row a l m = ap (λ w. bit w (a .number)) (is-row .each (a .issuer) l) ∙ sym (view-says ws (granted j p (a .issuer) (a .number)) (lj, (lp, (l, (m, tt)))))
 
-    wide-state : Wide ws
-    wide-state = record { each = λ k. record { fits = W .wide k } }
-
+    -- an active role that was seen
     abbrev Met : Type 0
-    Met = (a : Role) × (a .issuer < 16) × (a .number < 16) × (bit (getD ws (row + a .issuer) 0) (a .number) ≡ true) × (among found a ≡ true)
+    Met = (q : ℕ) × (q < 16) × (in-set found i q ≡ true) × (bit (read ws (active-roles i s)) q ≡ true)
 
     met-may : Met → MayUse (view ws) j p i s
-    met-may (a, l, m, g, e) = go (f .sound a l m e)
+    met-may (q, lq, h, on) = go (f .sound (i # q) li lq h)
       where
-        go : (q : ℕ) × (q < 16) × (bit (read ws (active-roles i s)) q ≡ true) × Reaches links (i # q) a → MayUse (view ws) j p i s
-        go (q, lq, on, r) =
+        go : ReachesInto links holders (i # q) → MayUse (view ws) j p i s
+        go (a, l, m, g, r) =
             let act = sym (active-read W i s li ls q lq refl) ∙ on in
             record {
               its-user = user-of (view ws) i s;
@@ -105,7 +84,7 @@ module _ {ws : List ℕ} (W : LawfulWords ws) where
               is-open = W .lawful .supported (active i s (user-of (view ws) i s) q) (opened i s (user-of (view ws) i s)) act here;
               is-active = act;
               is-reached = r;
-              is-granted = view-says ws (granted j p (a .issuer) (a .number)) (lj, (lp, (l, (m, tt)))) ∙ g;
+              is-granted = sym (in-row a l m) ∙ g;
             }
 
     may-met : MayUse (view ws) j p i s → Met
@@ -113,16 +92,19 @@ module _ {ws : List ℕ} (W : LawfulWords ws) where
         let n = W .lawful .numbered (granted j p (m .holder .issuer) (m .holder .number)) (m .is-granted) in
         let k = W .lawful .numbered (active i s (m .its-user) (m .its-role)) (m .is-active) in
         let same = user-is (view ws) (W .lawful) i s (m .its-user) (m .is-open) in
-        let act : bit (read ws (active-roles i s)) (m .its-role) ≡ true = active-read W i s li ls (m .its-role) (k .1 .1 .1 .0) refl ∙ ap (λ u. (view ws) .stands (active i s u (m .its-role))) same ∙ m .is-active in (
-          m .holder,
-          n .1 .1 .0,
-          n .1 .1 .1 .0,
-          sym (view-says ws (granted j p (m .holder .issuer) (m .holder .number)) n) ∙ m .is-granted,
-          f .complete (m .its-role) (m .holder) (k .1 .1 .1 .0) act (m .is-reached),
+        let la = n .1 .1 .0 in
+        let ma = n .1 .1 .1 .0 in
+        let lq = k .1 .1 .1 .0 in (
+          m .its-role,
+          lq,
+          f .complete (i # m .its-role) (m .holder) la ma (in-row (m .holder) la ma ∙ m .is-granted) (m .is-reached),
+          active-read W i s li ls (m .its-role) lq refl ∙ ap (λ u. (view ws) .stands (active i s u (m .its-role))) same ∙ m .is-active,
         )
 
-    -- n: the bits of the permission's row in the set
-    pub may-told : {n : ℕ} → n ≡ gather 16 (λ k. bitAnd (getD ws (row + k) 0) (getD found k 0)) → not (eqb n 0) ≡ may-use (view ws) j p i s
-    may-told {n} e =
-        same-test _ _ (λ t. may-use-iff (view ws) j p (W .lawful) i s .1 (met-may (row-meets row wide-state wide .0 (λ z. eqb-false n 0 (not-true (eqb n 0) t) (e ∙ z)))))
-        (λ t. ap not (ne-eqb n 0 (λ z. row-meets row wide-state wide .1 (may-met (may-use-iff (view ws) j p (W .lawful) i s .0 t)) (sym e ∙ z))))
+    pub may-told : {own on : ℕ} → own ≡ getD found i 0 → on ≡ read ws (active-roles i s) → own < 65536 → not (eqb (bitAnd own on) 0) ≡ may-use (view ws) j p i s
+    may-told {own} {on} e d w = rw (e, d) (
+        same-test _ _ (λ t. may-use-iff (view ws) j p (W .lawful) i s .1 (met-may (common .0 (eqb-false _ 0 (not-true _ t)))))
+        (λ t. ap not (ne-eqb _ 0 (common .1 (may-met (may-use-iff (view ws) j p (W .lawful) i s .0 t))))))
+      where
+        common : (bitAnd (getD found i 0) (read ws (active-roles i s)) ≡ 0 → ⊥) ↔ Met
+        common = common-bit (getD found i 0) (read ws (active-roles i s)) (rw e at w)

@@ -108,27 +108,29 @@ tally-le (suc n) f = go (tally-le n f) (f n) refl
     go rec true e = rw (e, tally) (omega arith)
     go rec false e = rw (e, tally) (omega arith)
 
-module _ (f g : ℕ → Bool) (s : (k : ℕ) → f k ≡ true → g k ≡ true) where
-  pub tally-mono : (n : ℕ) → tally n f ≤ tally n g
+module _ (f g : ℕ → Bool) where
+  tally-mono : (n : ℕ) → ((k : ℕ) → k < n → f k ≡ true → g k ≡ true) → tally n f ≤ tally n g
   unfolding tally
-  tally-mono zero = omega arith
-  tally-mono (suc n) = go (tally-mono n) (f n) refl (g n) refl
+  tally-mono zero s = omega arith
+  tally-mono (suc n) s = go (tally-mono n (λ k l. s k (omega arith))) (f n) refl (g n) refl
     where
       go : tally n f ≤ tally n g → (b : Bool) → f n ≡ b → (c : Bool) → g n ≡ c → tally (suc n) f ≤ tally (suc n) g
       go rec true e true d = rw (e, d, tally) (omega arith)
-      go rec true e false d = absurd (clash (s n e) d)
+      go rec true e false d = absurd (clash (s n (omega arith) e) d)
       go rec false e true d = rw (e, d, tally) (omega arith)
       go rec false e false d = rw (e, d, tally) rec
 
-  pub tally-more : (n k : ℕ) → k < n → f k ≡ false → g k ≡ true → tally n f < tally n g
+  pub tally-more : (n : ℕ) → ((k : ℕ) → k < n → f k ≡ true → g k ≡ true) → (k : ℕ) → k < n → f k ≡ false → g k ≡ true → tally n f < tally n g
   unfolding tally
-  tally-more zero k l p q = absurd (omega arith)
-  tally-more (suc n) k l p q = go (tally-mono n) (λ (m : k < n). tally-more n k m p q) (f n) refl (g n) refl (below-or-not k n)
+  tally-more zero s k l p q = absurd (omega arith)
+  tally-more (suc n) s k l p q =
+      let below : (j : ℕ) → j < n → f j ≡ true → g j ≡ true = λ j m. s j (omega arith) in
+      go (tally-mono n below) (λ (m : k < n). tally-more n below k m p q) (f n) refl (g n) refl (below-or-not k n)
     where
       go : tally n f ≤ tally n g → (k < n → tally n f < tally n g) → (b : Bool) → f n ≡ b → (c : Bool) → g n ≡ c → (k < n) ⊎ (n ≤ k) → tally (suc n) f < tally (suc n) g
       go m rec true e true d (inl a) = let r = rec a in rw (e, d, tally) (omega arith)
       go m rec true e true d (inr a) = let w : k ≡ n = omega arith in absurd (clash e (subst (λ x. f x ≡ false) w p))
-      go m rec true e false d a = absurd (clash (s n e) d)
+      go m rec true e false d a = absurd (clash (s n (omega arith) e) d)
       go m rec false e true d a = rw (e, d, tally) (omega arith)
       go m rec false e false d (inl a) = rw (e, d, tally) (rec a)
       go m rec false e false d (inr a) = let w : k ≡ n = omega arith in absurd (clash (subst (λ x. g x ≡ true) w q) d)

@@ -1,15 +1,17 @@
 -- The bits gathered from several words: none are found exactly where no word has any.
 use mathlib.Core.Path.{_≡_, refl, ap₂, sym, _∙_}
 use mathlib.Core.Logic.{_↔_, _⊎_, inl, inr}
-use mathlib.Core.Bool.{true, not, _&&_}
+use mathlib.Core.Bool.{Bool, true, false, not, _&&_}
 use Prim.Native.Nat.{ℕ, zero, suc, _+_, _-_, _<_, _≤_}
 use native.Mathlib.Numerals.{add-one}
 use native.Mathlib.Omega.{arith}
 use lib.Bits.{bitAnd, bitOr, or-add-and, and-le-l, and-le-r}
+use Rattle.bits.specs.Below.{any-below}
 use Rattle.bits.specs.Bit.{bit}
 use Rattle.bits.specs.Gather.{gather}
 use Rattle.bits.proofs.Bit.{bit-0, bit-and, bit-not, word-ext}
-use Rattle.bits.proofs.Booleans.{below-or-not, and-not}
+use Rattle.bits.proofs.Below.{any-intro, any-both-elim}
+use Rattle.bits.proofs.Booleans.{clash, untrue, below-or-not, and-intro, and-not}
 
 -- one word more
 pub gather-more : (t : ℕ) (f : ℕ → ℕ) {found w : ℕ} → found ≡ gather t f → w ≡ f t → bitOr found w ≡ gather (t + 1) f
@@ -49,3 +51,16 @@ stray-zero w a la lw = (
   where
     stray : (n : ℕ) → n < 16 → bit (bitAnd w (65535 - a)) n ≡ bit w n && not (bit a n)
     stray n l = rw (bit-not 16 a n la l) at (bit-and w (65535 - a) n)
+
+-- two words have a bit in common
+pub common-bit : (a b : ℕ) → a < 65536 → (bitAnd a b ≡ 0 → ⊥) ↔ ((n : ℕ) × (n < 16) × (bit a n ≡ true) × (bit b n ≡ true))
+common-bit a b l = (λ ne. find ne (any-below 16 both) refl, λ (n, m, p, q) e. clash (bit-and a b n ∙ and-intro _ _ p q) (rw e (bit-0 n)))
+  where
+    both : ℕ → Bool
+    both n = bit a n && bit b n
+
+    find : (bitAnd a b ≡ 0 → ⊥) → (x : Bool) → any-below 16 both ≡ x → (n : ℕ) × (n < 16) × (bit a n ≡ true) × (bit b n ≡ true)
+    find ne true e = let (n, m, p, q) = any-both-elim 16 (bit a) (bit b) e in (n, m, p, q)
+    find ne false e =
+        absurd (ne (word-ext 16 _ 0 (omega (arith, and-le-l a b)) (omega arith)
+        (λ n m. bit-and a b n ∙ untrue (both n) (λ t. clash (any-intro 16 both n m t) e) ∙ sym (bit-0 n))))

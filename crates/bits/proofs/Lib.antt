@@ -5,3 +5,4 @@ pub mod Update
 pub mod Stride
 pub mod Roles
 pub mod Gather
+mod Lowest

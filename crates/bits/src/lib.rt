@@ -1,12 +1,12 @@
 // Bits of 16-bit words, sets of roles, and words of a lent slice masked or gathered.
 // The definitions that the contracts cite are in specs/; their laws, and the proofs, in proofs/.
 ghost use mathlib.Core.Path.{_≡_};
-ghost use mathlib.Core.Bool.{false};
+ghost use mathlib.Core.Bool.{true, false};
 ghost use Prim.Native.Nat.{ℕ, _+_, _-_, _*_, _<_, _≤_};
 ghost use lib.ListN.{length, getD};
 ghost use lib.Bits.{bitAnd};
 ghost use Rattle.bits.specs.Bit.{bit, with-bit, without-bit};
-ghost use Rattle.bits.specs.RoleSet.{in-set, Added, Union};
+ghost use Rattle.bits.specs.RoleSet.{in-set, Row, Added, Union};
 ghost use Rattle.bits.specs.Update.{Masked};
 ghost use Rattle.bits.specs.Stride.{in-run, in-column};
 ghost use Rattle.bits.specs.Gather.{gather};
@@ -32,6 +32,14 @@ pub fn without_bit(w: u16, n: u8) -> u16
     w & !(1u16 << n)
 }
 
+// The lowest bit of a word that has one.
+pub fn lowest_bit(w: u16) -> u8
+    requires { ⌜ (w ≡ 0 → ⊥) ⌝ }
+    ensures { λ n. ⌜ (n < 16) × (bit w n ≡ true) ⌝ }
+{
+    u16::trailing_zeros(w) as u8
+}
+
 // A word from its two bytes, the low one first.
 pub fn two_bytes(low: u8, high: u8) -> u16
     ensures { λ r. ⌜ r ≡ low + 256 * high ⌝ }
@@ -49,6 +57,18 @@ impl RoleSet {
         ensures { λ s. ⌜ ((i r : ℕ) → in-set (s .words) i r ≡ false) ⌝ }
     {
         RoleSet { words: [0u16; 16] }
+    }
+
+    // The set that sixteen words are, from state[at] on.
+    pub fn row(state: &[u16], at: usize) -> Self
+        requires { ⌜ at + 16 ≤ length (now state) ⌝ }
+        ensures { λ s. ⌜ Row (now (state .entry)) at (s .words) ⌝ }
+    {
+        let mut words = [0u16; 16];
+        for i in 0..16 {
+            words[i] = state[at + i];
+        }
+        RoleSet { words }
     }
 
     // Whether role r of issuer i is in the set.

@@ -1,5 +1,7 @@
 pub mod Links
 pub mod Rows
-pub mod Grown
-pub mod Sweeps
-pub mod Circles
+mod Sizes
+mod Freed
+mod Acyclicity
+mod Windows
+mod Climbing

@@ -1,2 +1,3 @@
 pub mod Links
-pub mod Grown
+pub mod Climbing
+pub mod Freed

@@ -1,4 +1,4 @@
--- The attachment words as a graph (document 01, 'The state'), and the roles that a set of roles reaches in it.
+-- The attachment words as a graph (document 01, 'The state'), and the roles that reach one of a set in it.
 use mathlib.Core.Path.{_≡_}
 use mathlib.Core.Bool.{Bool, true, false}
 use mathlib.Core.List.{List, [], _∷_}
@@ -21,8 +21,19 @@ linked words a b =
 abbrev pub among : List ℕ → Role → Bool
 among set a = in-set set (a .issuer) (a .number)
 
--- the roles that those of a set reach: no others, and all of them
-pub record ReachedFrom (below : Graph) (from reached : List ℕ) : Type 0 where
-  pub sound : (b : Role) → b .issuer < 16 → b .number < 16 → among reached b ≡ true
-      → (a : Role) × (a .issuer < 16) × (a .number < 16) × (among from a ≡ true) × Reaches below a b
-  pub complete : (a b : Role) → a .issuer < 16 → a .number < 16 → among from a ≡ true → Reaches below a b → among reached b ≡ true
+-- every role of the one set is in the other
+pub record Within (s t : List ℕ) : Type 0 where
+  pub each : (a : Role) → a .issuer < 16 → a .number < 16 → among s a ≡ true → among t a ≡ true
+
+-- every role is in the set
+abbrev pub Full : List ℕ → Type 0
+Full s = (a : Role) → a .issuer < 16 → a .number < 16 → among s a ≡ true
+
+-- a reaches a role of the set
+abbrev pub ReachesInto : Graph → List ℕ → Role → Type 0
+ReachesInto below set a = (b : Role) × (b .issuer < 16) × (b .number < 16) × (among set b ≡ true) × Reaches below a b
+
+-- the roles that reach one of a set: no others, and all of them
+pub record Reaching (below : Graph) (set above : List ℕ) : Type 0 where
+  pub sound : (a : Role) → a .issuer < 16 → a .number < 16 → among above a ≡ true → ReachesInto below set a
+  pub complete : (a b : Role) → b .issuer < 16 → b .number < 16 → among set b ≡ true → Reaches below a b → among above a ≡ true

@@ -78,14 +78,17 @@ fn roles_if(test: bool, set: bits::RoleSet) -> bits::RoleSet
 }
 
 // The sixteen rows of issuer j in the region from state[from] on: row p has only allowed roles, and none where bit p of present is not set.
+// The bits are taken one by one, so that the compiler takes each row whole and not sixteen rows word by word.
 fn stray_rows(state: &[u16], from: usize, j: usize, present: u16, allowed: bits::RoleSet) -> u16
     requires { ⌜ from + 16 * (16 * j + 16) ≤ length (now state) ⌝ }
     ensures { λ r. ⌜ r ≡ rows-stray (now (state .entry)) from j present (λ i. getD (allowed .words) i 0) ⌝ }
 {
     let mut found = 0u16;
+    let mut rest = present;
     for p in 0..16 {
-        let row = roles_if(bits::has_bit(present, p as u8), allowed);
+        let row = roles_if(rest % 2 == 1, allowed);
         found = found | bits::gather_row(state, from + 16 * (16 * j + p), row);
+        rest = rest / 2;
     }
     found
 }

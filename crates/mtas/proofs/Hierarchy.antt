@@ -127,7 +127,7 @@ module _ (e : Graph) (a : Role) where
       go : (b : Bool) → any-below 256 (λ k. by (suc n) k && unreached n k) ≡ b → (Stable n) ⊎ (reached n < reached (suc n))
       go true q =
           let (k, l, t, u) = any-both-elim 256 (by (suc n)) (unreached n) q in
-          inr (tally-more (by n) (by (suc n)) (λ j. within-more n (nth-role j)) 256 k l (not-true (by n k) u) t)
+          inr (tally-more (by n) (by (suc n)) 256 (λ j _. within-more n (nth-role j)) k l (not-true (by n k) u) t)
       go false q = inl (λ k l h. still k l h (within e n a (nth-role k)) refl)
         where
           still : (k : ℕ) → k < 256 → within e (suc n) a (nth-role k) ≡ true → (b : Bool) → within e n a (nth-role k) ≡ b → within e n a (nth-role k) ≡ true

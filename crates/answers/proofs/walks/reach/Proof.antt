@@ -1,9 +1,10 @@
--- `answers::walks::reach` meets its contract: what the copy of the attachments reaches, the state reaches.
+-- `answers::walks::reach` meets its contract: the copy's links are the attachments that stand.
 use borrow.Author.Needs.{needs}
-use Rattle.answers.proofs.Found.{reached-by}
+use Rattle.answers.proofs.Found.{reach-told}
 use Rattle.answers.proofs.walks.reach.Statement.{statement}
 use Rattle.answers.proofs.walks.reach.Tie as tie
 
 pub reach-spec : {M : Type 1} → statement M
-reach-spec = tie.close (tie.spec (λ c κs. search needs) (λ c. search needs) (λ c κs. search needs) (λ c κs. search needs)
-    (λ c. reached-by _ _ (c .before .before .before .attachments-of .ensures) (c .before .before .before .before .before .pre .1) (c .before .roles-of .ensures) (c .reached .ensures)))
+reach-spec =
+    tie.close
+    (tie.spec (λ c κs. search needs) (λ c. search needs) (λ c κs. search needs) (λ c. reach-told _ _ (c .before .before .attachments-of .ensures) (c .above .ensures)))

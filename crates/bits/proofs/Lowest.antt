@@ -1,0 +1,23 @@
+-- The lowest bit of a word: where its trailing zeros end.
+use mathlib.Core.Path.{_≡_, refl, ap, sym, _∙_}
+use mathlib.Core.Logic.{_⊎_, inl, inr}
+use mathlib.Core.Bool.{true}
+use Prim.Native.Nat.{ℕ, zero, suc, _/_, _%_, _^_, _<_, _≤_}
+use native.Mathlib.Nat.{pow-suc}
+use native.Mathlib.Omega.{arith}
+use lib.Count.{trailingZeros, under}
+use Rattle.bits.specs.Bit.{bit}
+use Rattle.bits.proofs.Bit.{bit-zero, bit-suc}
+
+pub lowest : (k w : ℕ) → w < 2 ^ k → (w ≡ 0 → ⊥) → (trailingZeros k w < k) × (bit w (trailingZeros k w) ≡ true)
+unfolding trailingZeros
+lowest zero w l n = absurd (n (omega arith))
+lowest (suc k) w l n = go (lowest k (w / 2) (omega (arith, pow-suc 2 k))) (w % 2) refl
+  where
+    t : ℕ
+    t = trailingZeros k (w / 2)
+
+    go : ((w / 2 ≡ 0 → ⊥) → (t < k) × (bit (w / 2) t ≡ true)) → (d : ℕ) → w % 2 ≡ d → (under (w % 2) t < suc k) × (bit w (under (w % 2) t) ≡ true)
+    go rec zero e = let (p, q) = rec (λ z. n (omega arith)) in rw e (omega arith, bit-suc w t ∙ q)
+    go rec (suc zero) e = rw e (omega arith, bit-zero w ∙ rw e)
+    go rec (suc (suc d)) e = absurd (omega arith)

@@ -1,0 +1,28 @@
+-- A walk upwards: the roles seen, and those whose direct seniors are seen too.
+use mathlib.Core.Path.{_≡_}
+use mathlib.Core.Logic.{_⊎_}
+use mathlib.Core.Bool.{true}
+use mathlib.Core.List.{List}
+use Prim.Native.Nat.{ℕ, _<_}
+use Rattle.bits.specs.Bit.{bit}
+use Rattle.mtas.specs.Hierarchy.{Role, _#_, Graph}
+use Rattle.hierarchy.specs.Links.{among, Within, ReachesInto}
+
+-- the set before, with the direct seniors of the roles of issuer i that are bits of the word
+pub record Lifted (below : Graph) (i word : ℕ) (before after : List ℕ) : Type 0 where
+  pub kept : Within before after
+  pub seniors : (r : ℕ) → r < 16 → bit word r ≡ true → (a : Role) → below a (i # r) ≡ true → among after a ≡ true
+  pub only : (a : Role) → a .issuer < 16 → a .number < 16 → among after a ≡ true
+      → (among before a ≡ true) ⊎ ((r : ℕ) × (r < 16) × (bit word r ≡ true) × (below a (i # r) ≡ true))
+
+-- a walk from a set, on its way
+pub record Climbing (below : Graph) (from seen done : List ℕ) : Type 0 where
+  pub begun : Within from seen
+  pub sound : (a : Role) → a .issuer < 16 → a .number < 16 → among seen a ≡ true → ReachesInto below from a
+  pub closed : (a b : Role) → b .issuer < 16 → b .number < 16 → among done b ≡ true → below a b ≡ true → among seen a ≡ true
+
+-- one round: what was seen is done, and the walk is still one from the same set
+pub record Climbed (below : Graph) (seen done seen′ done′ : List ℕ) : Type 0 where
+  pub kept : Within done done′
+  pub all-done : Within seen done′
+  pub goes-on : (from : List ℕ) → Climbing below from seen done → Climbing below from seen′ done′
