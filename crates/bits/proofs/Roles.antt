@@ -13,7 +13,7 @@ use Rattle.bits.specs.Bit.{bit, with-bit}
 use Rattle.bits.specs.RoleSet.{in-set, Added, Union}
 use Rattle.bits.specs.Stride.{in-run}
 use Rattle.bits.specs.Update.{Updated}
-use Rattle.bits.proofs.Bit.{bit-0, bit-or, bit-with}
+use Rattle.bits.proofs.Bit.{bit-0, bit-or, bit-with, word-ext}
 use Rattle.bits.proofs.Booleans.{below-or-not, untrue}
 use Rattle.bits.proofs.Stride.{run-in, run-out}
 use Rattle.bits.proofs.Update.{updated-none, updated-more}
@@ -25,6 +25,10 @@ zeros (suc n) (suc i) = zeros n i
 
 pub in-empty : (i r : ℕ) → in-set (replicate 16 0) i r ≡ false
 in-empty i r = rw (zeros 16 i) (bit-0 r)
+
+-- a set without roles has no bits
+pub no-bits : (s : List ℕ) (i : ℕ) → ((j q : ℕ) → in-set s j q ≡ false) → getD s i 0 < 65536 → getD s i 0 ≡ 0
+no-bits s i none wide = word-ext 16 _ 0 wide (omega arith) (λ n l. none i n ∙ sym (bit-0 n))
 
 pub added : {i r w : ℕ} {words : List ℕ} → i < length words → w ≡ with-bit (getD words i 0) r → Added i r words (set words i w)
 added {i} {r} {w} {words} h e = record { each = λ j q. ap (λ (x : ℕ). bit x q) (one .each j) ∙ go (eqb i j) (getD words j 0) q }

@@ -100,6 +100,18 @@ impl RoleSet {
         }
         self
     }
+
+    // The bits of its words in one.
+    pub fn gather(self) -> u16
+        ensures { λ r. ⌜ r ≡ gather 16 (λ i. getD (self .words) i 0) ⌝ }
+    {
+        let mut found = 0u16;
+        for i in 0..16 {
+            let w = self.words[i];
+            found = found | w;
+        }
+        found
+    }
 }
 
 // Mask the words at from, from + 1, .., from + count - 1.

@@ -1,79 +1,133 @@
 -- A walk upwards sees exactly the roles that reach one of the set it began with.
-use mathlib.Core.Path.{_≡_, refl, ap, sym, subst, _∙_}
+use mathlib.Core.Path.{_≡_, refl, ap, ap₂, sym, subst, _∙_}
 use mathlib.Core.Logic.{_⊎_, inl, inr}
 use mathlib.Core.Bool.{Bool, true, false, not, _&&_, _||_, and-false}
 use mathlib.Core.List.{List}
 use Prim.Native.Nat.{ℕ, _+_, _-_, _*_, _<_}
 use native.Mathlib.Decide.{ℕ-discrete}
 use native.Mathlib.Omega.{arith}
-use borrow.Author.Tests.{eqb-true, eq-eqb, not-false}
-use lib.Bits.{bitAnd, bitOr, or-lt, and-le-r}
+use borrow.Author.Tests.{eqb-true, eq-eqb, not-true}
+use lib.Bits.{bitAnd, bitOr, or-lt}
 use lib.Dec.{eqb}
 use lib.ListN.{length, getD, set, replicate}
 use lib.Seq.{getD-set-same, getD-set-other}
 use Rattle.bits.specs.Below.{tally}
 use Rattle.bits.specs.Bit.{bit, without-bit}
 use Rattle.bits.specs.RoleSet.{in-set, Row, Union}
-use Rattle.bits.proofs.Below.{tally-more}
+use Rattle.bits.proofs.Below.{tally-le, tally-more}
 use Rattle.bits.proofs.Bit.{bit-0, bit-and, bit-or, bit-not, bit-without}
-use Rattle.bits.proofs.Booleans.{clash, and-left, and-right, and-intro, or-cases, or-left, or-right, untrue}
+use Rattle.bits.proofs.Booleans.{clash, and-left, and-right, and-intro, and-not, or-cases, or-left, or-right}
 use Rattle.bits.proofs.Roles.{in-empty}
 use Rattle.mtas.specs.Hierarchy.{Role, _#_, Graph, Reaches, itself, down}
 use Rattle.mtas.proofs.Hierarchy.{Numbered, then}
 use Rattle.hierarchy.specs.Links.{linked, among, Within, Reaching, ReachesInto}
-use Rattle.hierarchy.specs.Climbing.{Lifted, Climbing, Climbed}
+use Rattle.hierarchy.specs.Climbing.{Inside, AllReach, Lifted, Climbing, Climbed}
 use Rattle.hierarchy.proofs.Links.{linked-bit, linked-numbered}
 use Rattle.hierarchy.proofs.Rows.{Wide}
 use Rattle.hierarchy.proofs.Freed.{within-itself, within-then}
 use Rattle.hierarchy.proofs.Sizes.{size, fewer-outside}
 
--- ---- lifting the roles of a word, one by one
+-- ---- lifting the roles of one issuer, one by one
 -- all but the roles of the rest
 pub record LiftedBut (below : Graph) (i word rest : ℕ) (before after : List ℕ) : Type 0 where
-  pub inside : (r : ℕ) → r < 16 → bit rest r ≡ true → bit word r ≡ true
+  pub inside : Inside rest after i
   pub kept : Within before after
-  pub seniors : (r : ℕ) → r < 16 → bit word r ≡ true → bit rest r ≡ false → (a : Role) → below a (i # r) ≡ true → among after a ≡ true
-  pub only : (a : Role) → a .issuer < 16 → a .number < 16 → among after a ≡ true
-      → (among before a ≡ true) ⊎ ((r : ℕ) × (r < 16) × (bit word r ≡ true) × (below a (i # r) ≡ true))
+  pub seniors : (r : ℕ) → r < 16 → in-set after i r ≡ true → (in-set before i r ≡ true → bit word r ≡ true) → bit rest r ≡ false
+      → (a : Role) → below a (i # r) ≡ true → among after a ≡ true
+  pub only : (from : List ℕ) → AllReach below from before → AllReach below from after
 
-pub lifted-none : {e : Graph} {i word : ℕ} {s : List ℕ} → LiftedBut e i word word s s
-lifted-none = record { inside = λ r l h. h; kept = within-itself; seniors = λ r l h n. absurd (clash h n); only = λ a l m h. inl h }
+pub lifted-none : {e : Graph} {i word : ℕ} {s : List ℕ} → Inside word s i → LiftedBut e i word word s s
+lifted-none h = record { inside = h; kept = within-itself; seniors = λ r l x w n. absurd (clash (w x) n); only = λ from f. f }
 
 pub lifted-all : {e : Graph} {i word rest : ℕ} {s t : List ℕ} → rest ≡ 0 → LiftedBut e i word rest s t → Lifted e i word s t
-lifted-all z u = record { kept = u .kept; seniors = λ r l h. u .seniors r l h (rw z (bit-0 r)); only = u .only }
+lifted-all z u = record { kept = u .kept; seniors = λ r l x w. u .seniors r l x w (rw z (bit-0 r)); only = u .only }
 
-module _ (links : List ℕ) (i r : ℕ) {s row t : List ℕ} (li : i < 16) (lr : r < 16) (is-row : Row links (16 * (16 * i + r)) row) (both : Union s row t) where
+-- the role r of the rest is lifted: its row joins s, and the roles of i that come so join the rest
+module _ (links : List ℕ) (i r rest : ℕ) (s row t : List ℕ) (li : i < 16) (lr : r < 16) (on : bit rest r ≡ true) (wide : getD s i 0 < 65536)
+    (is-row : Row links (16 * (16 * i + r)) row) (both : Union s row t) where
+  abbrev rest′ : ℕ
+  rest′ = bitOr (without-bit rest r) (bitAnd (getD row i 0) (65535 - getD s i 0))
+
+  rest-bit : (q : ℕ) → q < 16 → bit rest′ q ≡ (bit rest q && not (eqb r q)) || (in-set row i q && not (in-set s i q))
+  rest-bit q l =
+      bit-or (without-bit rest r) (bitAnd (getD row i 0) (65535 - getD s i 0)) q
+      ∙ ap₂ _||_ (bit-without rest r q lr l) (bit-and (getD row i 0) (65535 - getD s i 0) q ∙ ap (λ x. in-set row i q && x) (bit-not 16 (getD s i 0) q wide l))
+
   in-row : (a : Role) → a .issuer < 16 → a .number < 16 → among row a ≡ linked links a (i # r)
   in-row a l m = ap (λ w. bit w (a .number)) (is-row .each (a .issuer) l) ∙ sym (linked-bit links a (i # r) (li, (lr, (l, (m, tt)))))
 
   from-old : Within s t
   from-old = record { each = λ a l m h. both .each (a .issuer) (a .number) ∙ or-left (among s a) (among row a) h }
 
-  pub lifted-more : {word rest : ℕ} {s₀ : List ℕ} → bit rest r ≡ true → LiftedBut (linked links) i word rest s₀ s
-      → LiftedBut (linked links) i word (without-bit rest r) s₀ t
-  lifted-more {word} {rest} {s₀} on u = record {
-    inside = λ q l h. u .inside q l (and-left (bit rest q) (not (eqb r q)) (sym (bit-without rest r q lr l) ∙ h));
+  from-row : (a : Role) → among row a ≡ true → among t a ≡ true
+  from-row a h = both .each (a .issuer) (a .number) ∙ or-right (among s a) (among row a) h
+
+  -- a role of i that was in the set and isn't in the rest now: it is r, or wasn't in the rest before
+  gone : (q : ℕ) → q < 16 → in-set s i q ≡ true → bit rest′ q ≡ false → (bit rest q ≡ false) ⊎ (r ≡ q)
+  gone q l h n = go (bit rest q) refl (eqb r q) refl
+    where
+      go : (x : Bool) → bit rest q ≡ x → (y : Bool) → eqb r q ≡ y → (bit rest q ≡ false) ⊎ (r ≡ q)
+      go false p y e = inl p
+      go true p true e = inr (eqb-true r q e)
+      go true p false e = absurd (clash (rest-bit q l ∙ or-left (bit rest q && not (eqb r q)) _ (and-intro (bit rest q) _ p (ap not e))) n)
+
+  -- a role of i that came is in the rest
+  came : (q : ℕ) → q < 16 → in-set t i q ≡ true → in-set s i q ≡ false → bit rest′ q ≡ true
+  came q l h n = go (or-cases (in-set s i q) (in-set row i q) (sym (both .each i q) ∙ h))
+    where
+      go : (in-set s i q ≡ true) ⊎ (in-set row i q ≡ true) → bit rest′ q ≡ true
+      go (inl x) = absurd (clash x n)
+      go (inr x) = rest-bit q l ∙ or-right (bit rest q && not (eqb r q)) _ (and-intro (in-set row i q) _ x (ap not n))
+
+  pub lifted-more : {word : ℕ} {s₀ : List ℕ} → LiftedBut (linked links) i word rest s₀ s → LiftedBut (linked links) i word rest′ s₀ t
+  lifted-more {word} {s₀} u = record {
+    inside = λ q l h. still q l (or-cases (bit rest q && not (eqb r q)) (in-set row i q && not (in-set s i q)) (sym (rest-bit q l) ∙ h));
     kept = within-then (u .kept) from-old;
-    seniors = λ q l h n a k. let (la, ma, _, _) = linked-numbered links a (i # q) k in taken q l h n a la ma k (bit rest q) refl;
-    only = λ a l m h. given a l m (or-cases (among s a) (among row a) (sym (both .each (a .issuer) (a .number)) ∙ h));
+    seniors = λ q l h w n a k. let (la, ma, _, _) = linked-numbered links a (i # q) k in taken q l h w n a la ma k (in-set s i q) refl;
+    only = λ from f a l m h. reach from f a l m (or-cases (among s a) (among row a) (sym (both .each (a .issuer) (a .number)) ∙ h));
   }
     where
-      taken : (q : ℕ) → q < 16 → bit word q ≡ true → bit (without-bit rest r) q ≡ false → (a : Role) → a .issuer < 16 → a .number < 16
-          → linked links a (i # q) ≡ true → (b : Bool) → bit rest q ≡ b → among t a ≡ true
-      taken q l h n a la ma k false z = from-old .each a la ma (u .seniors q l h z a k)
-      taken q l h n a la ma k true z =
-          let same : r ≡ q = eqb-true r q (not-false (eqb r q) (ap (λ x. x && not (eqb r q)) (sym z) ∙ sym (bit-without rest r q lr l) ∙ n)) in
-          both .each (a .issuer) (a .number) ∙ or-right (among s a) (among row a) (in-row a la ma ∙ subst (λ x. linked links a (i # x) ≡ true) (sym same) k)
+      still : (q : ℕ) → q < 16 → (bit rest q && not (eqb r q) ≡ true) ⊎ (in-set row i q && not (in-set s i q) ≡ true) → in-set t i q ≡ true
+      still q l (inl x) = from-old .each (i # q) li l (u .inside q l (and-left (bit rest q) _ x))
+      still q l (inr x) = from-row (i # q) (and-left (in-set row i q) _ x)
 
-      given : (a : Role) → a .issuer < 16 → a .number < 16 → (among s a ≡ true) ⊎ (among row a ≡ true)
-          → (among s₀ a ≡ true) ⊎ ((q : ℕ) × (q < 16) × (bit word q ≡ true) × (linked links a (i # q) ≡ true))
-      given a l m (inl x) = u .only a l m x
-      given a l m (inr x) = inr (r, lr, u .inside r lr on, sym (in-row a l m) ∙ x)
+      taken : (q : ℕ) → q < 16 → in-set t i q ≡ true → (in-set s₀ i q ≡ true → bit word q ≡ true) → bit rest′ q ≡ false → (a : Role) → a .issuer < 16 → a .number < 16
+          → linked links a (i # q) ≡ true → (b : Bool) → in-set s i q ≡ b → among t a ≡ true
+      taken q l h w n a la ma k false z = absurd (clash (came q l h z) n)
+      taken q l h w n a la ma k true z = go (gone q l z n)
+        where
+          go : (bit rest q ≡ false) ⊎ (r ≡ q) → among t a ≡ true
+          go (inl x) = from-old .each a la ma (u .seniors q l z w x a k)
+          go (inr x) = from-row a (in-row a la ma ∙ subst (λ p. linked links a (i # p) ≡ true) (sym x) k)
 
-pub fewer-bits : (rest r : ℕ) → r < 16 → bit rest r ≡ true → tally 16 (bit (without-bit rest r)) < tally 16 (bit rest)
-fewer-bits rest r lr on =
-    tally-more (bit (without-bit rest r)) (bit rest) 16 (λ q l h. and-left (bit rest q) (not (eqb r q)) (sym (bit-without rest r q lr l) ∙ h)) r lr
-    (bit-without rest r r lr lr ∙ rw (eq-eqb r r refl) (and-false (bit rest r))) on
+      reach : (from : List ℕ) → AllReach (linked links) from s₀ → (a : Role) → a .issuer < 16 → a .number < 16
+          → (among s a ≡ true) ⊎ (among row a ≡ true) → ReachesInto (linked links) from a
+      reach from f a l m (inl x) = u .only from f a l m x
+      reach from f a l m (inr x) =
+          let (b, lb, mb, h, p) = u .only from f (i # r) li lr (u .inside r lr on) in
+          (b, lb, mb, h, then (down itself (sym (in-row a l m) ∙ x)) p)
+
+  more-lifted : Inside rest s i → tally 16 (λ q. in-set s i q && not (bit rest q)) < tally 16 (λ q. in-set t i q && not (bit rest′ q))
+  more-lifted ins =
+      tally-more (λ q. in-set s i q && not (bit rest q)) (λ q. in-set t i q && not (bit rest′ q)) 16
+      (λ q l h. let x = and-left (in-set s i q) _ h in and-intro (in-set t i q) _ (from-old .each (i # q) li l x) (ap not (none q l x (not-true _ (and-right (in-set s i q) _ h)))))
+      r lr (ap (λ x. in-set s i r && not x) on ∙ and-false (in-set s i r))
+      (and-intro (in-set t i r) _ (from-old .each (i # r) li lr (ins r lr on)) (ap not (at-r (ins r lr on))))
+    where
+      both-false : (a b : Bool) → a ≡ false → b ≡ false → a || b ≡ false
+      both-false a b p q = ap₂ _||_ p q
+
+      none : (q : ℕ) → q < 16 → in-set s i q ≡ true → bit rest q ≡ false → bit rest′ q ≡ false
+      none q l x n = rest-bit q l ∙ both-false _ _ (ap (λ y. y && not (eqb r q)) n) (ap (λ y. in-set row i q && not y) x ∙ and-false (in-set row i q))
+
+      at-r : in-set s i r ≡ true → bit rest′ r ≡ false
+      at-r x =
+          rest-bit r lr
+          ∙ both-false _ _ (ap (λ y. bit rest r && not y) (eq-eqb r r refl) ∙ and-false (bit rest r)) (ap (λ y. in-set row i r && not y) x ∙ and-false (in-set row i r))
+
+  -- fewer roles of i are not lifted
+  pub fewer-left : Inside rest s i → 16 - tally 16 (λ q. in-set t i q && not (bit rest′ q)) < 16 - tally 16 (λ q. in-set s i q && not (bit rest q))
+  fewer-left ins = omega (arith, more-lifted ins, tally-le 16 (λ q. in-set t i q && not (bit rest′ q)))
 
 -- ---- one round, issuer by issuer
 pub record RoundTo (below : Graph) (n : ℕ) (seen done seen′ done′ : List ℕ) : Type 0 where
@@ -89,90 +143,95 @@ round-none w = record { wide = w; kept-seen = within-itself; kept-done = within-
 pub round-all : {e : Graph} {seen done seen′ done′ : List ℕ} → RoundTo e 16 seen done seen′ done′ → Climbed e seen done seen′ done′
 round-all u = record { kept = u .kept-done; all-done = record { each = λ a l. u .so-far a l l }; goes-on = u .goes-on }
 
-module _ (n : ℕ) (ln : n < 16) (seen′ done′ : List ℕ) (long : n < length done′) (all-wide : Wide done′) where
-  wide-n : getD done′ n 0 < 65536
-  wide-n = all-wide .each n .fits
-
-  -- what is seen of the issuer n and not done
+-- one issuer more: what is seen of it and not done is lifted, and then all that is seen of it is done
+module _ {e : Graph} (num : Numbered e) (n : ℕ) (ln : n < 16) (seen′ done′ : List ℕ) {seen done : List ℕ} (u : RoundTo e n seen done seen′ done′) where
   abbrev word : ℕ
   word = bitAnd (getD seen′ n 0) (65535 - getD done′ n 0)
 
-  abbrev done″ : List ℕ
-  done″ = set done′ n (bitOr (getD done′ n 0) word)
-
   word-bit : (q : ℕ) → q < 16 → bit word q ≡ in-set seen′ n q && not (in-set done′ n q)
-  word-bit q l = bit-and (getD seen′ n 0) (65535 - getD done′ n 0) q ∙ ap (λ x. in-set seen′ n q && x) (bit-not 16 (getD done′ n 0) q wide-n l)
+  word-bit q l = bit-and (getD seen′ n 0) (65535 - getD done′ n 0) q ∙ ap (λ x. in-set seen′ n q && x) (bit-not 16 (getD done′ n 0) q (u .wide .each n .fits) l)
 
-  at-n : (q : ℕ) → in-set done″ n q ≡ in-set done′ n q || bit word q
-  at-n q = ap (λ (x : ℕ). bit x q) (getD-set-same done′ n _ 0 long) ∙ bit-or (getD done′ n 0) word q
+  pub word-inside : Inside word seen′ n
+  word-inside q l h = and-left (in-set seen′ n q) _ (sym (word-bit q l) ∙ h)
 
-  elsewhere : (j q : ℕ) → (j ≡ n → ⊥) → in-set done″ j q ≡ in-set done′ j q
-  elsewhere j q d = ap (λ (x : ℕ). bit x q) (getD-set-other done′ n j _ 0 d)
-
-  still-wide : Wide done″
-  still-wide = record { each = λ k. record { fits = go k (ℕ-discrete k n) } }
-    where
-      go : (k : ℕ) → Dec (k ≡ n) → getD done″ k 0 < 65536
-      go k (yes p) =
-          rw (p, getD-set-same done′ n (bitOr (getD done′ n 0) word) 0 long)
-          (or-lt 16 (getD done′ n 0) word wide-n (omega (arith, and-le-r (getD seen′ n 0) (65535 - getD done′ n 0))))
-      go k (no d) = rw (getD-set-other done′ n k (bitOr (getD done′ n 0) word) 0 d) (all-wide .each k .fits)
-
-  keeps : Within done′ done″
-  keeps = record { each = λ a l m h. go a h (ℕ-discrete (a .issuer) n) }
-    where
-      go : (a : Role) → among done′ a ≡ true → Dec (a .issuer ≡ n) → among done″ a ≡ true
-      go a h (yes p) = rw p (at-n (a .number) ∙ or-left (in-set done′ n (a .number)) (bit word (a .number)) (rw p at h))
-      go a h (no d) = elsewhere (a .issuer) (a .number) d ∙ h
-
-  takes : (q : ℕ) → q < 16 → in-set seen′ n q ≡ true → in-set done″ n q ≡ true
-  takes q l h = go (in-set done′ n q) refl
-    where
-      go : (b : Bool) → in-set done′ n q ≡ b → in-set done″ n q ≡ true
-      go true z = at-n q ∙ or-left (in-set done′ n q) (bit word q) z
-      go false z = at-n q ∙ or-right (in-set done′ n q) (bit word q) (word-bit q l ∙ and-intro (in-set seen′ n q) _ h (ap not z))
-
-  cases : (b : Role) → among done″ b ≡ true → (among done′ b ≡ true) ⊎ ((n ≡ b .issuer) × (bit word (b .number) ≡ true))
-  cases b h = go (ℕ-discrete (b .issuer) n)
-    where
-      go : Dec (b .issuer ≡ n) → (among done′ b ≡ true) ⊎ ((n ≡ b .issuer) × (bit word (b .number) ≡ true))
-      go (no d) = inl (sym (elsewhere (b .issuer) (b .number) d) ∙ h)
-      go (yes p) = split (or-cases (in-set done′ n (b .number)) (bit word (b .number)) (sym (at-n (b .number)) ∙ (rw p at h)))
-        where
-          split : (in-set done′ n (b .number) ≡ true) ⊎ (bit word (b .number) ≡ true) → (among done′ b ≡ true) ⊎ ((n ≡ b .issuer) × (bit word (b .number) ≡ true))
-          split (inl x) = inl (rw p x)
-          split (inr x) = inr (sym p, x)
-
-  pub round-more : {e : Graph} {seen done seen″ : List ℕ} → Numbered e → Lifted e n word seen′ seen″ → RoundTo e n seen done seen′ done′ → RoundTo e (n + 1) seen done seen″ done″
-  round-more {e} {seen} {done} {seen″} num lift u = record {
-    wide = still-wide;
-    kept-seen = within-then (u .kept-seen) (lift .kept);
-    kept-done = within-then (u .kept-done) keeps;
-    so-far = λ a l li m h. made a l li m h (ℕ-discrete (a .issuer) n);
-    goes-on = λ from c.
-        let k = u .goes-on from c in
-        record {
-          begun = within-then (k .begun) (lift .kept);
-          sound = λ a l m h. reach from k a l m (lift .only a l m h);
-          closed = λ a b l m h t. close from k a b l m t (cases b h);
-        };
+  -- nothing to lift
+  pub round-idle : word ≡ 0 → RoundTo e (n + 1) seen done seen′ done′
+  round-idle z = record {
+    wide = u .wide;
+    kept-seen = u .kept-seen;
+    kept-done = u .kept-done;
+    so-far = λ a l li m h. go a l li m h (ℕ-discrete (a .issuer) n);
+    goes-on = u .goes-on;
   }
     where
-      made : (a : Role) → a .issuer < n + 1 → a .issuer < 16 → a .number < 16 → among seen a ≡ true → Dec (a .issuer ≡ n) → among done″ a ≡ true
-      made a l li m h (yes p) = rw p (takes (a .number) m (rw p at (u .kept-seen .each a li m h)))
-      made a l li m h (no d) = keeps .each a li m (u .so-far a (omega arith) li m h)
+      go : (a : Role) → a .issuer < n + 1 → a .issuer < 16 → a .number < 16 → among seen a ≡ true → Dec (a .issuer ≡ n) → among done′ a ≡ true
+      go a l li m h (no d) = u .so-far a (omega arith) li m h
+      go a l li m h (yes p) = rw p (and-not (in-set seen′ n (a .number)) (in-set done′ n (a .number)) .0 (sym (word-bit (a .number) m) ∙ rw z (bit-0 (a .number))) (rw p at (u .kept-seen .each a li m h)))
 
-      reach : (from : List ℕ) → Climbing e from seen′ done′ → (a : Role) → a .issuer < 16 → a .number < 16
-          → (among seen′ a ≡ true) ⊎ ((r : ℕ) × (r < 16) × (bit word r ≡ true) × (e a (n # r) ≡ true)) → ReachesInto e from a
-      reach from k a l m (inl x) = k .sound a l m x
-      reach from k a l m (inr (r, lr, on, t)) =
-          let (b, lb, mb, x, p) = k .sound (n # r) ln lr (and-left (in-set seen′ n r) _ (sym (word-bit r lr) ∙ on)) in
-          (b, lb, mb, x, then (down itself t) p)
+  module _ {seen″ : List ℕ} (lift : Lifted e n word seen′ seen″) (long : n < length done′) (wide″ : getD seen″ n 0 < 65536) where
+    abbrev done″ : List ℕ
+    done″ = set done′ n (bitOr (getD done′ n 0) (getD seen″ n 0))
 
-      close : (from : List ℕ) → Climbing e from seen′ done′ → (a b : Role) → b .issuer < 16 → b .number < 16 → e a b ≡ true
-          → (among done′ b ≡ true) ⊎ ((n ≡ b .issuer) × (bit word (b .number) ≡ true)) → among seen″ a ≡ true
-      close from k a b l m t (inl x) = let (la, ma, _, _) = num a b t in lift .kept .each a la ma (k .closed a b l m x t)
-      close from k a b l m t (inr (p, on)) = lift .seniors (b .number) m on a (rw p t)
+    at-n : (q : ℕ) → in-set done″ n q ≡ in-set done′ n q || in-set seen″ n q
+    at-n q = ap (λ (x : ℕ). bit x q) (getD-set-same done′ n (bitOr (getD done′ n 0) (getD seen″ n 0)) 0 long) ∙ bit-or (getD done′ n 0) (getD seen″ n 0) q
+
+    elsewhere : (j q : ℕ) → (j ≡ n → ⊥) → in-set done″ j q ≡ in-set done′ j q
+    elsewhere j q d = ap (λ (x : ℕ). bit x q) (getD-set-other done′ n j (bitOr (getD done′ n 0) (getD seen″ n 0)) 0 d)
+
+    still-wide : Wide done″
+    still-wide = record { each = λ k. record { fits = go k (ℕ-discrete k n) } }
+      where
+        go : (k : ℕ) → Dec (k ≡ n) → getD done″ k 0 < 65536
+        go k (yes p) =
+            rw (p, getD-set-same done′ n (bitOr (getD done′ n 0) (getD seen″ n 0)) 0 long) (or-lt 16 (getD done′ n 0) (getD seen″ n 0) (u .wide .each n .fits) wide″)
+        go k (no d) = rw (getD-set-other done′ n k (bitOr (getD done′ n 0) (getD seen″ n 0)) 0 d) (u .wide .each k .fits)
+
+    keeps : Within done′ done″
+    keeps = record { each = λ a l m h. go a h (ℕ-discrete (a .issuer) n) }
+      where
+        go : (a : Role) → among done′ a ≡ true → Dec (a .issuer ≡ n) → among done″ a ≡ true
+        go a h (yes p) = rw p (at-n (a .number) ∙ or-left (in-set done′ n (a .number)) (in-set seen″ n (a .number)) (rw p at h))
+        go a h (no d) = elsewhere (a .issuer) (a .number) d ∙ h
+
+    cases : (b : Role) → among done″ b ≡ true → (among done′ b ≡ true) ⊎ ((n ≡ b .issuer) × (in-set seen″ n (b .number) ≡ true))
+    cases b h = go (ℕ-discrete (b .issuer) n)
+      where
+        go : Dec (b .issuer ≡ n) → (among done′ b ≡ true) ⊎ ((n ≡ b .issuer) × (in-set seen″ n (b .number) ≡ true))
+        go (no d) = inl (sym (elsewhere (b .issuer) (b .number) d) ∙ h)
+        go (yes p) = split (or-cases (in-set done′ n (b .number)) (in-set seen″ n (b .number)) (sym (at-n (b .number)) ∙ (rw p at h)))
+          where
+            split : (in-set done′ n (b .number) ≡ true) ⊎ (in-set seen″ n (b .number) ≡ true) → (among done′ b ≡ true) ⊎ ((n ≡ b .issuer) × (in-set seen″ n (b .number) ≡ true))
+            split (inl x) = inl (rw p x)
+            split (inr x) = inr (sym p, x)
+
+    pub round-more : RoundTo e (n + 1) seen done seen″ done″
+    round-more = record {
+      wide = still-wide;
+      kept-seen = within-then (u .kept-seen) (lift .kept);
+      kept-done = within-then (u .kept-done) keeps;
+      so-far = λ a l li m h. made a l li m h (ℕ-discrete (a .issuer) n);
+      goes-on = λ from c.
+          let k = u .goes-on from c in
+          record {
+            begun = within-then (k .begun) (lift .kept);
+            sound = lift .only from (k .sound);
+            closed = λ a b l m h t. close from k a b l m t (cases b h);
+          };
+    }
+      where
+        made : (a : Role) → a .issuer < n + 1 → a .issuer < 16 → a .number < 16 → among seen a ≡ true → Dec (a .issuer ≡ n) → among done″ a ≡ true
+        made a l li m h (yes p) =
+            rw p (at-n (a .number) ∙ or-right (in-set done′ n (a .number)) (in-set seen″ n (a .number)) (rw p at (lift .kept .each a li m (u .kept-seen .each a li m h))))
+        made a l li m h (no d) = keeps .each a li m (u .so-far a (omega arith) li m h)
+
+        close : (from : List ℕ) → Climbing e from seen′ done′ → (a b : Role) → b .issuer < 16 → b .number < 16 → e a b ≡ true
+            → (among done′ b ≡ true) ⊎ ((n ≡ b .issuer) × (in-set seen″ n (b .number) ≡ true)) → among seen″ a ≡ true
+        close from k a b l m t (inl x) = let (la, ma, _, _) = num a b t in lift .kept .each a la ma (k .closed a b l m x t)
+        close from k a b l m t (inr (p, x)) = go (in-set done′ n (b .number)) refl
+          where
+            go : (y : Bool) → in-set done′ n (b .number) ≡ y → among seen″ a ≡ true
+            go true z = let (la, ma, _, _) = num a b t in lift .kept .each a la ma (k .closed a b l m (rw p at z) t)
+            go false z = lift .seniors (b .number) m x (λ h. word-bit (b .number) m ∙ and-intro (in-set seen′ n (b .number)) _ h (ap not z)) a (rw p t)
 
 -- ---- the whole walk
 pub climb-begins : {e : Graph} {s : List ℕ} → Climbing e s s (replicate 16 0)

@@ -4,7 +4,7 @@ ghost use mathlib.Core.Path.{_≡_};
 ghost use Prim.Native.Nat.{_<_};
 ghost use lib.ListN.{length, take, drop};
 ghost use Rattle.hierarchy.specs.Links.{linked, Reaching};
-ghost use Rattle.hierarchy.specs.Climbing.{Lifted, Climbed};
+ghost use Rattle.hierarchy.specs.Climbing.{Inside, Lifted, Climbed};
 use bits::RoleSet;
 
 mod circles;
@@ -23,16 +23,19 @@ pub fn attachments_of(state: &[u16]) -> [u16; 4096]
     links
 }
 
-// The direct seniors of the roles of issuer i that are bits of the word are seen too.
+// The direct seniors of the roles of issuer i that are bits of the word are seen too, and those of the roles of i that come so.
 fn lift(links: &[u16], i: usize, word: u16, mut seen: RoleSet) -> RoleSet
-    requires { ⌜ (length (now links) ≡ 4096) × (i < 16) ⌝ }
+    requires { ⌜ (length (now links) ≡ 4096) × (i < 16) × Inside word (seen .words) i ⌝ }
     ensures { λ r. ⌜ Lifted (linked (now (links .entry))) i word (seen .words) (r .words) ⌝ }
 {
     let mut rest = word;
     while rest != 0 {
         let r = bits::lowest_bit(rest);
-        seen = seen.union(RoleSet::row(links, 16 * (16 * i + r as usize)));
-        rest = bits::without_bit(rest, r);
+        let row = RoleSet::row(links, 16 * (16 * i + r as usize));
+        let above = row.words[i];
+        let known = seen.words[i];
+        seen = seen.union(row);
+        rest = bits::without_bit(rest, r) | (above & !known);
     }
     seen
 }
@@ -55,8 +58,11 @@ fn round(links: &[u16], from: Climb) -> Climb
         let d = done[i];
         let s = seen.words[i];
         let word = s & !d;
-        done[i] = d | word;
-        seen = lift(links, i, word, seen);
+        if word != 0 {
+            seen = lift(links, i, word, seen);
+            let lifted = seen.words[i];
+            done[i] = d | lifted;
+        }
     }
     let words = seen.words;
     Climb { seen: words, done }

@@ -86,9 +86,14 @@ module _ (ws : List ℕ) where
         ↔ ((p : ℕ) → p < 16 → (k : ℕ) → k < 16 → (r : ℕ) → r < 16 → bit (getD ws (from + 16 * (16 * i + p) + k) 0) r ≡ true
         → (bit present p ≡ true) × Says (trusts k i) × Says (role k r))
     unfolding rows-stray
-    rows-zero from present =
-        gather-iff _ (λ p _. gather-iff _ (λ k _.
-        inside-if-both (bit present p) (bit (read ws (trusted k)) i) _ _ (wide (from + 16 * (16 * i + p) + k)) (wide (address (roles k)))))
+    rows-zero from present = (λ e p l k m. all .0 e k m p l, λ f. all .1 (λ k m p l. f p l k m))
+      where
+        all : (rows-stray ws from i present (allowed ws i) ≡ 0)
+            ↔ ((k : ℕ) → k < 16 → (p : ℕ) → p < 16 → (r : ℕ) → r < 16 → bit (getD ws (from + 16 * (16 * i + p) + k) 0) r ≡ true
+            → (bit present p ≡ true) × Says (trusts k i) × Says (role k r))
+        all =
+            gather-iff _ (λ k _. gather-iff _ (λ p _.
+            inside-if-both (bit present p) (bit (read ws (trusted k)) i) _ _ (wide (from + 16 * (16 * i + p) + k)) (wide (address (roles k)))))
 
     session-zero : (s : ℕ) → (session-stray ws i s ≡ 0) ↔ Session i s
     session-zero s = (λ e. split e (below-or-not w 16), join)

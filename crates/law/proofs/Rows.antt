@@ -10,5 +10,5 @@ use Rattle.law.specs.Stray.{only-if, outside, rows-stray}
 pub rows-ext : (ws : List ℕ) (from j present : ℕ) {a b : ℕ → ℕ} → ((i : ℕ) → i < 16 → a i ≡ b i) → rows-stray ws from j present a ≡ rows-stray ws from j present b
 unfolding rows-stray
 rows-ext ws from j present h =
-    gather-ext 16 _ _ (λ p _. gather-ext 16 _ _
-    (λ i l. ap (λ (x : ℕ). outside (getD ws (from + 16 * (16 * j + p) + i) 0) (only-if (bit present p) x)) (h i l)))
+    gather-ext 16 _ _ (λ i l. gather-ext 16 _ _
+    (λ p _. ap (λ (x : ℕ). outside (getD ws (from + 16 * (16 * j + p) + i) 0) (only-if (bit present p) x)) (h i l)))

@@ -49,11 +49,17 @@ pub record Trusting (ws : List ℕ) (j : ℕ) (words : List ℕ) : Type 0 where
 pub record OnlyIf (test : Bool) (before after : List ℕ) : Type 0 where
   pub each : (i : ℕ) → getD after i 0 ≡ only-if test (getD before i 0)
 
--- 'grants and attachments only between present ends': the sixteen rows of j in a region, where row p may have the bits of a i in its word i,
--- if bit p of present is set
+-- after: the stray bits found before, and those of a row of sixteen words that may have only the bits of allowed words
+pub record RowGathered (ws : List ℕ) (at : ℕ) (may before after : List ℕ) : Type 0 where
+  pub each : (i : ℕ) → i < 16 → getD after i 0 ≡ bitOr (getD before i 0) (outside (getD ws (at + i) 0) (getD may i 0))
+
+-- 'grants and attachments only between present ends': word i of row p of j in a region may have the bits of a i, if bit p of present is set
+abbrev pub link-stray : List ℕ → ℕ → ℕ → ℕ → (ℕ → ℕ) → ℕ → ℕ → ℕ
+link-stray ws from j present a i p = outside (getD ws (from + 16 * (16 * j + p) + i) 0) (only-if (bit present p) (a i))
+
+-- the sixteen rows of j
 unfoldable pub rows-stray : List ℕ → ℕ → ℕ → ℕ → (ℕ → ℕ) → ℕ
-rows-stray ws from j present a =
-    gather 16 (λ p. gather 16 (λ i. outside (getD ws (from + 16 * (16 * j + p) + i) 0) (only-if (bit present p) (a i))))
+rows-stray ws from j present a = gather 16 (λ i. gather 16 (link-stray ws from j present a i))
 
 -- 'a closed session has no active role, an open one a present user and active roles that this user holds'; any other user counts as a stray bit
 unfoldable pub session-stray : List ℕ → ℕ → ℕ → ℕ

@@ -1,12 +1,15 @@
 -- The invariant: the round has come to the issuer i.
 use borrow.Author.Needs.{needs}
 use mathlib.Core.Path.{_≡_}
-use Prim.Native.Nat.{_-_, _≤_}
+use mathlib.Core.Logic.{⊎-elim}
+use Prim.Native.Nat.{_-_, _≤_, _<_}
 use native.Mathlib.Omega.{arith}
-use lib.ListN.{length, length-set}
+use lib.ListN.{length, getD, length-set}
+use mir.Syntax.{w16}
+use mir.Val.{Fits}
 use Rattle.hierarchy.specs.Links.{linked}
 use Rattle.hierarchy.proofs.Links.{linked-numbered}
-use Rattle.hierarchy.proofs.Climbing.{RoundTo, round-none, round-more, round-all}
+use Rattle.hierarchy.proofs.Climbing.{RoundTo, word-inside, round-none, round-more, round-idle, round-all}
 use Rattle.hierarchy.proofs.round.Statement.{statement}
 use Rattle.hierarchy.proofs.round.Tie as tie
 
@@ -19,10 +22,23 @@ abbrev μ-loop : tie.MeasureT-loop
 loop-holds : tie.Need-loop-holds Inv-loop μ-loop
 loop-holds c = (omega arith, search needs, round-none (search needs))
 
+lift-requires : tie.Need-lift-requires Inv-loop μ-loop
+lift-requires c κs =
+    let l = c .before .before .before .loop in
+    (search needs, omega arith, word-inside (linked-numbered _) (l .i) (omega arith) (l .seen .words) (l .done) (l .inv .2))
+
 loop-again : tie.Need-loop-again Inv-loop μ-loop
 loop-again c =
     let l = c .before .before .before .loop in
-    (omega arith, simp length-set (l .inv .1), round-more (l .i) (omega arith) (l .seen .words) (l .done) (omega arith) (l .inv .2 .wide) (linked-numbered _) (c .lift .ensures) (l .inv .2))
+    let li : l .i < 16 = omega arith in (
+      omega arith,
+      ⊎-elim (λ (h, lift, lifted, es, ed). rw ed (simp length-set (l .inv .1))) (λ (h, es, ed). rw ed (l .inv .1)) (c .if1 .came),
+      ⊎-elim
+          (λ (h, lift, lifted, es, ed).
+          let wide : Fits w16 (getD (lift .result .words) (l .i) 0) = search needs in
+          rw (es, ed) (round-more (linked-numbered _) (l .i) li (l .seen .words) (l .done) (l .inv .2) (lift .ensures) (omega arith) (wide .fits)))
+          (λ (h, es, ed). rw (es, ed) (round-idle (linked-numbered _) (l .i) li (l .seen .words) (l .done) (l .inv .2) (h .left))) (c .if1 .came),
+    )
 
 returns : tie.Need-returns Inv-loop μ-loop
 returns c = let end : c .before .before .loop .i ≡ 16 = omega arith in round-all (rw end at (c .before .before .loop .inv .2))
@@ -38,9 +54,11 @@ round-spec =
     (λ c. omega arith)
     (λ c. omega arith)
     (λ c. search needs)
+    lift-requires
+    (λ c. omega arith)
+    (λ c. search needs)
     (λ c. omega arith)
     (λ c. omega arith)
-    (λ c κs. search needs)
     (λ c. omega arith)
     (λ c. omega arith)
     loop-again
