@@ -1,0 +1,9 @@
+//! What the benchmark's programs share.
+
+pub mod checks;
+pub mod library;
+pub mod random;
+pub mod records;
+pub mod states;
+pub mod timing;
+pub mod words;

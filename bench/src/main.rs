@@ -1,0 +1,114 @@
+//! The proved library beside a plain engine in Rust: ratios of their times in the same run.
+
+use std::time::Instant;
+
+use bench::checks;
+use bench::library;
+use bench::random::Random;
+use bench::records::{random_journal, Record};
+use bench::states::{self, Case};
+use bench::timing::{measure, median, ratio, Engine, Task};
+use bench::words::{self, WORDS};
+
+const LIBRARY: usize = 0;
+const PLAIN: usize = 1;
+const ENGINES: [Engine; 2] = [library::call, words::call];
+const ROUNDS: usize = 200;
+
+// Places of the states that others are compared with.
+const EMPTY: usize = 0;
+const DENSE: usize = 2;
+
+/// What is played on a case.
+type Records = fn(&Case) -> &[Record];
+
+fn main() {
+    let mut cases = vec![states::empty(), states::harvest(), states::dense()];
+    cases.extend(states::chains());
+
+    let checked = checks::compare(&cases);
+    println!(
+        "{} calls compared on {} states and a random journal: equal answers and words",
+        checked.calls,
+        cases.len()
+    );
+    println!(
+        "refusals 0 to 13 given: {:?}, verdict 1: {}",
+        checked.refusals, checked.verdicts
+    );
+
+    let operations: [(&str, Records); 3] = [
+        ("kind 21, verdict 1", |case| &case.allowed),
+        ("kind 21, verdict 0", |case| &case.denied),
+        ("grant and ungrant", |case| &case.grants),
+    ];
+    let mut tables: Vec<Vec<Task>> = operations
+        .iter()
+        .map(|(_, records)| {
+            let task = |case| Task::new(records(case), ENGINES, &case.state);
+            cases.iter().map(task).collect()
+        })
+        .collect();
+    let mut tasks: Vec<&mut Task> = tables.iter_mut().flatten().collect();
+    measure(&mut tasks, ROUNDS);
+    for ((operation, _), table) in operations.iter().zip(&tables) {
+        print_table(operation, &cases, table);
+    }
+    journal();
+}
+
+/// A line for each state: ratios first, then nanoseconds of a call.
+fn print_table(operation: &str, cases: &[Case], table: &[Task]) {
+    println!();
+    println!(
+        "{operation:<24}{:>14}{:>14}{:>14}{:>14}{:>12}{:>12}",
+        "library/plain", "library/empty", "plain/empty", "library/dense", "library ns", "plain ns"
+    );
+    for (case, task) in cases.iter().zip(table) {
+        println!(
+            "{:<24}{:>14.2}{:>14.2}{:>14.2}{:>14.2}{:>12.0}{:>12.0}",
+            case.name,
+            task.ratio(),
+            task.growth(&table[EMPTY], LIBRARY),
+            task.growth(&table[EMPTY], PLAIN),
+            task.growth(&table[DENSE], LIBRARY),
+            task.time(LIBRARY),
+            task.time(PLAIN)
+        );
+    }
+}
+
+/// A long random journal, played from starting by each engine in turn.
+fn journal() {
+    let journal = random_journal(&mut Random::new(2), 20_000);
+    let mut times = [vec![], vec![]];
+    for number in 0..15 {
+        let mut ends = [vec![0; WORDS], vec![0; WORDS]];
+        let mut sums = [0; 2];
+        for turn in 0..2 {
+            let engine = (number + turn) % 2;
+            library::start(&mut ends[engine]);
+            let begin = Instant::now();
+            for record in &journal {
+                sums[engine] += ENGINES[engine](&mut ends[engine], record);
+            }
+            times[engine].push(begin.elapsed().as_nanos() as f64);
+        }
+        assert!(
+            sums[0] == sums[1] && ends[0] == ends[1],
+            "the engines differ"
+        );
+    }
+    let rate = |engine: usize| {
+        let seconds = median(times[engine].clone()) / 1e9;
+        journal.len() as f64 / seconds
+    };
+    println!();
+    println!(
+        "random journal of {} records: time library/plain {:.2}; records a second: library {:.0}, plain {:.0}",
+        journal.len(),
+        ratio(&times[LIBRARY], &times[PLAIN]),
+        rate(LIBRARY),
+        rate(PLAIN)
+    );
+}

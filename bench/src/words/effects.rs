@@ -1,0 +1,111 @@
+//! What an accepted call changes, cascades included.
+
+use super::{held, row, session, Call, State, ATTACHMENTS, CLOSED, ENROLLED, GRANTS};
+use super::{PERMISSIONS, ROLES, SESSIONS, TRUST, USERS};
+
+pub fn change(state: &mut State, call: &Call) {
+    let c = call.caller;
+    let [x, y, z] = call.arguments;
+    match call.kind {
+        1 => {
+            state[ENROLLED] |= 1 << x;
+            state[TRUST + x] |= 1 << x;
+        }
+        2 => strike(state, x),
+        3 => state[TRUST + c] |= 1 << x,
+        4 => {
+            state[TRUST + c] &= !(1 << x);
+            mask_column(state, row(GRANTS, x, 0) + c, 16, 0);
+            mask_column(state, row(ATTACHMENTS, x, 0) + c, 16, 0);
+        }
+        5 => state[USERS + c] |= 1 << x,
+        6 => {
+            state[USERS + c] &= !(1 << x);
+            state[held(c, x)] = 0;
+            for pair in sessions(state, c) {
+                if usize::from(pair[0]) == x {
+                    pair.copy_from_slice(&[CLOSED, 0]);
+                }
+            }
+        }
+        7 => state[ROLES + c] |= 1 << x,
+        8 => remove_role(state, c, x),
+        9 => state[PERMISSIONS + c] |= 1 << x,
+        10 => {
+            state[PERMISSIONS + c] &= !(1 << x);
+            state[row(GRANTS, c, x)..][..16].fill(0);
+        }
+        11 => state[held(c, x)] |= 1 << y,
+        12 => {
+            state[held(c, x)] &= !(1 << y);
+            for pair in sessions(state, c) {
+                if usize::from(pair[0]) == x {
+                    pair[1] &= !(1 << y);
+                }
+            }
+        }
+        13 => state[row(GRANTS, c, x) + y] |= 1 << z,
+        14 => state[row(GRANTS, c, x) + y] &= !(1 << z),
+        15 => state[row(ATTACHMENTS, c, x) + y] |= 1 << z,
+        16 => state[row(ATTACHMENTS, c, x) + y] &= !(1 << z),
+        17 => state[session(c, x)] = y as u16,
+        18 => state[session(c, x)..][..2].copy_from_slice(&[CLOSED, 0]),
+        19 => state[session(c, x) + 1] |= 1 << y,
+        20 => state[session(c, x) + 1] &= !(1 << y),
+        _ => {}
+    }
+}
+
+/// The pairs of the sessions of i.
+fn sessions(state: &mut State, i: usize) -> impl Iterator<Item = &mut [u16]> {
+    state[SESSIONS + 32 * i..][..32].chunks_exact_mut(2)
+}
+
+/// Masks every sixteenth word.
+fn mask_column(state: &mut State, from: usize, count: usize, mask: u16) {
+    for n in 0..count {
+        state[from + 16 * n] &= mask;
+    }
+}
+
+/// Keeps only the roles of i that are bits of the mask in the grants and attachments of all.
+fn mask_roles(state: &mut State, i: usize, mask: u16) {
+    mask_column(state, GRANTS + i, 256, mask);
+    mask_column(state, ATTACHMENTS + i, 256, mask);
+}
+
+fn remove_role(state: &mut State, i: usize, r: usize) {
+    let mask = !(1 << r);
+    state[ROLES + i] &= mask;
+    for word in &mut state[held(i, 0)..][..16] {
+        *word &= mask;
+    }
+    for pair in sessions(state, i) {
+        pair[1] &= mask;
+    }
+    state[row(ATTACHMENTS, i, r)..][..16].fill(0);
+    mask_roles(state, i, mask);
+}
+
+fn strike(state: &mut State, i: usize) {
+    state[ENROLLED] &= !(1 << i);
+    mask_trust(state, i);
+    state[USERS + i] = 0;
+    state[ROLES + i] = 0;
+    state[PERMISSIONS + i] = 0;
+    state[held(i, 0)..][..16].fill(0);
+    state[row(GRANTS, i, 0)..][..256].fill(0);
+    state[row(ATTACHMENTS, i, 0)..][..256].fill(0);
+    mask_roles(state, i, 0);
+    for pair in sessions(state, i) {
+        pair.copy_from_slice(&[CLOSED, 0]);
+    }
+}
+
+/// Nobody trusts i, nor i anybody.
+fn mask_trust(state: &mut State, i: usize) {
+    for word in &mut state[TRUST..TRUST + 16] {
+        *word &= !(1 << i);
+    }
+    state[TRUST + i] = 0;
+}

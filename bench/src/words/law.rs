@@ -1,0 +1,84 @@
+//! Whether the words are a lawful state.
+//! The bits that lack what they need are gathered, and there must be none.
+
+use super::roles::{acyclic, sixteen, Roles};
+use super::{has, held, row, session, State, ATTACHMENTS, CLOSED, ENROLLED, GRANTS, PERMISSIONS};
+use super::{ROLES, TRUST, USERS};
+
+pub fn lawful(state: &State) -> bool {
+    (0..16).all(|i| {
+        owned_stray(state, i) | held_stray(state, i) == 0
+            && links_lawful(state, i)
+            && sessions_lawful(state, i)
+    }) && acyclic(state)
+}
+
+/// The word, or 0.
+fn only_if(test: bool, word: u16) -> u16 {
+    if test {
+        word
+    } else {
+        0
+    }
+}
+
+/// Trust, users, roles and permissions of issuer i.
+fn owned_stray(state: &State, i: usize) -> u16 {
+    let enrolled = state[ENROLLED];
+    let trust = state[TRUST + i];
+    if has(enrolled, i) {
+        trust & !enrolled | !trust & 1 << i
+    } else {
+        trust | state[USERS + i] | state[ROLES + i] | state[PERMISSIONS + i]
+    }
+}
+
+/// Held bits of the users of i.
+fn held_stray(state: &State, i: usize) -> u16 {
+    let words = sixteen(state, held(i, 0));
+    let users = state[USERS + i];
+    let roles = state[ROLES + i];
+    (0..16).fold(0, |stray, u| {
+        stray | words[u] & !only_if(has(users, u), roles)
+    })
+}
+
+/// Whether grants of j's permissions and attachments of j's roles stand only where they may.
+fn links_lawful(state: &State, j: usize) -> bool {
+    // The present roles of the issuers that trust j.
+    let allowed: [u16; 16] =
+        std::array::from_fn(|i| only_if(has(state[TRUST + i], j), state[ROLES + i]));
+    let allowed = Roles::read(&allowed);
+    let mut stray = Roles::default();
+    for (region, present) in [
+        (GRANTS, state[PERMISSIONS + j]),
+        (ATTACHMENTS, state[ROLES + j]),
+    ] {
+        for p in 0..16 {
+            let roles = Roles::read(sixteen(state, row(region, j, p)));
+            if has(present, p) {
+                stray.join(&roles.without(&allowed));
+            } else {
+                stray.join(&roles);
+            }
+        }
+    }
+    stray.is_empty()
+}
+
+/// The sessions of i.
+fn sessions_lawful(state: &State, i: usize) -> bool {
+    (0..16).all(|s| {
+        let at = session(i, s);
+        let user = state[at];
+        let active = state[at + 1];
+        match user {
+            0..=15 => {
+                let user = usize::from(user);
+                has(state[USERS + i], user) && active & !state[held(i, user)] == 0
+            }
+            CLOSED => active == 0,
+            _ => false,
+        }
+    })
+}

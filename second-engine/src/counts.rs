@@ -1,0 +1,209 @@
+//! What the random journals have reached.
+
+use crate::engine::Answer;
+use crate::lawful::{Law, LAWS};
+use crate::record::{decode, Call};
+use crate::sets::{own, Grant, Permission, SessionName, Sets};
+use std::collections::{BTreeMap, BTreeSet};
+
+/// What a call can clear.
+const CLEARED: [&str; 9] = [
+    "trust",
+    "users",
+    "roles",
+    "permissions",
+    "held",
+    "grants",
+    "attachments",
+    "sessions",
+    "active",
+];
+
+/// What each clearing kind must have cleared at least once: its own thing and what the cascade
+/// sentences name.
+const MUST_CLEAR: [(usize, &[&str]); 10] = [
+    (2, &CLEARED),
+    (4, &["trust", "grants", "attachments"]),
+    (6, &["users", "held", "sessions", "active"]),
+    (8, &["roles", "held", "grants", "attachments", "active"]),
+    (10, &["permissions", "grants"]),
+    (12, &["held", "active"]),
+    (14, &["grants"]),
+    (16, &["attachments"]),
+    (18, &["sessions", "active"]),
+    (20, &["active"]),
+];
+
+/// How many there are of each of `CLEARED`.
+pub fn sizes(sets: &Sets) -> [usize; 9] {
+    [
+        sets.trust.len(),
+        sets.users.len(),
+        sets.roles.len(),
+        sets.permissions.len(),
+        sets.held.len(),
+        sets.grants.len(),
+        sets.attachments.len(),
+        sets.sessions.len(),
+        sets.sessions.values().map(|open| open.active.len()).sum(),
+    ]
+}
+
+#[derive(Default)]
+pub struct Counts {
+    pub journals: u64,
+    pub calls: u64,
+    /// Calls on damaged or other states, among the calls.
+    pub on_other_states: u64,
+    pub starts: u64,
+    tried: [u64; 22],
+    accepted: [u64; 22],
+    refusals: [u64; 14],
+    /// Verdicts 1 by the least number of attachments walked: 0, 1, 2, 3, 4 or more.
+    verdicts: [u64; 5],
+    verdicts_on_other_states: u64,
+    /// How much each kind cleared.
+    cleared: [[u64; 9]; 22],
+    /// States that broke one clause of "Lawful means" and no other.
+    broken_alone: BTreeMap<Law, u64>,
+}
+
+impl Counts {
+    pub fn answered(&mut self, record: &[u8], answer: Answer) {
+        self.calls += 1;
+        self.refusals[usize::from(answer.refusal)] += 1;
+        if let Some(decoded) = decode(record) {
+            self.tried[decoded.kind] += 1;
+            if answer.refusal == 0 {
+                self.accepted[decoded.kind] += 1;
+            }
+        }
+    }
+
+    /// An accepted call on the present state: what it cleared, and how far a verdict 1 went.
+    pub fn changed(&mut self, record: &[u8], answer: Answer, before: [usize; 9], after: &Sets) {
+        let Some(decoded) = decode(record) else {
+            return;
+        };
+        let cleared = &mut self.cleared[decoded.kind];
+        for (place, count) in sizes(after).into_iter().enumerate() {
+            cleared[place] += before[place].saturating_sub(count) as u64;
+        }
+        let Call::MayUse {
+            permission,
+            issuer,
+            session,
+        } = decoded.call
+        else {
+            return;
+        };
+        if answer.verdict == 1 {
+            let permission = own(decoded.caller, permission);
+            let walked = attachments_walked(after, own(issuer, session), permission);
+            self.verdicts[walked.min(4)] += 1;
+        }
+    }
+
+    pub fn on_other_state(&mut self, answer: Answer, broken: &[Law]) {
+        self.on_other_states += 1;
+        self.verdicts_on_other_states += u64::from(answer.verdict);
+        if let [law] = broken {
+            *self.broken_alone.entry(*law).or_default() += 1;
+        }
+    }
+
+    /// Whatever was never reached.
+    pub fn missing(&self) -> Vec<String> {
+        let mut missing = Vec::new();
+        for number in 1..14 {
+            if self.refusals[number] == 0 {
+                missing.push(format!("refusal {number}"));
+            }
+        }
+        for kind in 1..22 {
+            if self.accepted[kind] == 0 {
+                missing.push(format!("kind {kind} accepted"));
+            }
+        }
+        for (walked, &count) in self.verdicts.iter().enumerate() {
+            if count == 0 {
+                missing.push(format!("verdict 1 after {walked} attachments"));
+            }
+        }
+        for (kind, must) in MUST_CLEAR {
+            for (name, count) in CLEARED.iter().zip(self.cleared[kind]) {
+                if must.contains(name) && count == 0 {
+                    missing.push(format!("kind {kind} clearing {name}"));
+                }
+            }
+        }
+        for law in LAWS {
+            if !self.broken_alone.contains_key(&law) {
+                missing.push(format!("a state that breaks only {law:?}"));
+            }
+        }
+        if self.starts == 0 {
+            missing.push("starting a used state".to_string());
+        }
+        missing
+    }
+
+    pub fn print(&self) {
+        let accepted: u64 = self.accepted.iter().sum();
+        let verdicts: u64 = self.verdicts.iter().sum();
+        println!("journals                  {}", self.journals);
+        println!("calls                     {}", self.calls);
+        println!("  on other states         {}", self.on_other_states);
+        println!("starts of used states     {}", self.starts);
+        println!("accepted                  {accepted}");
+        print!("refusals                 ");
+        for number in 1..14 {
+            print!(" {number}: {}", self.refusals[number]);
+        }
+        println!();
+        println!(
+            "verdicts 1                {}",
+            verdicts + self.verdicts_on_other_states
+        );
+        println!(
+            "  attachments walked      0: {}, 1: {}, 2: {}, 3: {}, more: {}",
+            self.verdicts[0],
+            self.verdicts[1],
+            self.verdicts[2],
+            self.verdicts[3],
+            self.verdicts[4]
+        );
+        println!("kind: calls, accepted, cleared");
+        for kind in 1..22 {
+            let tried = self.tried[kind];
+            print!("  {kind:2}: {tried:6} {:6} ", self.accepted[kind]);
+            for (name, count) in CLEARED.iter().zip(self.cleared[kind]) {
+                if count > 0 {
+                    print!(" {name} {count}");
+                }
+            }
+            println!();
+        }
+        println!("states breaking one clause of \"Lawful means\" alone:");
+        for (law, count) in &self.broken_alone {
+            println!("  {law:?}: {count}");
+        }
+    }
+}
+
+/// The least number of attachments from an active role down to a role that holds the
+/// permission, where there is one.
+fn attachments_walked(sets: &Sets, name: SessionName, permission: Permission) -> usize {
+    let active = sets.sessions[&name].active.iter();
+    let mut level: BTreeSet<_> = active.map(|&role| own(name.issuer, role)).collect();
+    let mut walked = 0;
+    let holds = |&role: &_| sets.grants.contains(&Grant { role, permission });
+    while !level.is_empty() && !level.iter().any(holds) {
+        level = level
+            .into_iter()
+            .flat_map(|role| sets.juniors(role))
+            .collect();
+        walked += 1;
+    }
+    walked
+}

@@ -1,0 +1,192 @@
+//! States for refusals 1 and 2: the present one or another, with changes that no call makes.
+
+use crate::lawful_states::lawful_sets;
+use crate::random::Random;
+use crate::sets::{
+    own, session_word, write_started, Attachment, Grant, Held, Role, Sets, Trust, CLOSED, WORDS,
+};
+use crate::worlds::{Thing, World};
+use std::collections::BTreeSet;
+use std::fmt;
+
+/// What the changes are made in.
+#[derive(Clone, Copy, Debug, PartialEq, Eq)]
+pub enum Base {
+    /// The state as the journal left it.
+    Present,
+    /// A state just started.
+    Started,
+}
+
+/// How to come to the words that are lent: new words in some places, then the length.
+#[derive(Clone, Debug)]
+pub struct Damage {
+    base: Base,
+    pub edits: Vec<(usize, u16)>,
+    length: usize,
+}
+
+impl Damage {
+    fn new(base: Base, present: &[u16], words: &[u16], length: usize) -> Damage {
+        let from = base_words(base, present);
+        let places = (0..WORDS).filter(|&place| words[place] != from[place]);
+        let edits = places.map(|place| (place, words[place])).collect();
+        Damage {
+            base,
+            edits,
+            length,
+        }
+    }
+
+    pub fn apply(&self, present: &[u16]) -> Vec<u16> {
+        let mut words = base_words(self.base, present);
+        for &(place, word) in &self.edits {
+            words[place] = word;
+        }
+        words.resize(self.length, 0);
+        words
+    }
+}
+
+impl fmt::Display for Damage {
+    fn fmt(&self, out: &mut fmt::Formatter) -> fmt::Result {
+        match self.base {
+            Base::Present => write!(out, "on a copy of the state")?,
+            Base::Started => write!(out, "on a started copy")?,
+        }
+        for (place, word) in &self.edits {
+            write!(out, ", word {place} := {word}")?;
+        }
+        if self.length != WORDS {
+            write!(out, ", {} words", self.length)?;
+        }
+        Ok(())
+    }
+}
+
+fn base_words(base: Base, present: &[u16]) -> Vec<u16> {
+    let mut words = present.to_vec();
+    if base == Base::Started {
+        write_started(&mut words);
+    }
+    words
+}
+
+pub fn any_damage(random: &mut Random, world: &World, present: &[u16]) -> Damage {
+    match random.below(200) {
+        0 => {
+            let noise: Vec<u16> = (0..WORDS).map(|_| random.word()).collect();
+            Damage::new(Base::Started, present, &noise, WORDS)
+        }
+        1..=30 => {
+            let mut words = vec![0; WORDS];
+            lawful_sets(random).write(&mut words);
+            let length = change(random, world, &mut words);
+            Damage::new(Base::Started, present, &words, length)
+        }
+        _ => {
+            let mut words = present.to_vec();
+            let length = change(random, world, &mut words);
+            Damage::new(Base::Present, present, &words, length)
+        }
+    }
+}
+
+/// Changes something in the words, or gives another length for them.
+fn change(random: &mut Random, world: &World, words: &mut [u16]) -> usize {
+    match random.below(20) {
+        // a wrong length, also one that is right modulo 65536
+        0 => return random.pick(&[0, 1, 9024, 9026, 9027, 18050, 65536 + WORDS]),
+        // nothing
+        1 => {}
+        // any bits, any word
+        2..=4 => {
+            for _ in 0..random.between(1, 3) {
+                words[random.below(WORDS)] ^= 1 << random.below(16);
+            }
+        }
+        5 => words[random.below(WORDS)] = random.word(),
+        // a session's user, also out of range, or its active roles
+        6 | 7 => {
+            let i = world.name(random, Thing::Issuer);
+            let place = session_word(i, world.name(random, Thing::Session));
+            let user = world.name(random, Thing::User) as u16;
+            let users = [user, user, user + 16, 16, 255, 256, 65534, CLOSED];
+            words[place] = random.pick(&users);
+        }
+        8 => {
+            let i = world.name(random, Thing::Issuer);
+            let place = session_word(i, world.name(random, Thing::Session));
+            words[place + 1] ^= 1 << world.name(random, Thing::Role);
+        }
+        9 | 10 => {
+            let mut sets = Sets::read(words);
+            put_circle_in(random, &mut sets);
+            sets.write(words);
+        }
+        // something put in or taken out without its cascade
+        _ => {
+            let mut sets = Sets::read(words);
+            turn_over(random, world, &mut sets);
+            sets.write(words);
+        }
+    }
+    WORDS
+}
+
+/// Attaches a role above one that reaches it, where trust allows that.
+fn put_circle_in(random: &mut Random, sets: &mut Sets) {
+    let Some(role) = random.member(&sets.roles) else {
+        return;
+    };
+    // A role below itself is the shortest circle; mostly a longer one is looked for.
+    let mut circle = Attachment {
+        senior: role,
+        junior: role,
+    };
+    let tries = random.pick(&[0, 8, 8, 8]);
+    for _ in 0..tries {
+        let Some(junior) = random.member(&sets.roles) else {
+            return;
+        };
+        let below = sets.reached(junior);
+        let fits = |low: &Role| *low != junior && sets.trusts(low.issuer, junior.issuer);
+        if let Some(senior) = random.member_where(&below, fits) {
+            circle = Attachment { senior, junior };
+        }
+    }
+    sets.attachments.insert(circle);
+}
+
+/// Puts one thing of the world in if it is not there, or takes it out if it is.
+fn turn_over(random: &mut Random, world: &World, sets: &mut Sets) {
+    fn turn<T: Ord>(set: &mut BTreeSet<T>, item: T) {
+        if !set.remove(&item) {
+            set.insert(item);
+        }
+    }
+    let issuer = world.name(random, Thing::Issuer);
+    let other = world.name(random, Thing::Issuer);
+    let user = own(issuer, world.name(random, Thing::User));
+    let role = own(issuer, world.name(random, Thing::Role));
+    let permission = own(other, world.name(random, Thing::Permission));
+    let trust = |trustor, trustee| Trust { trustor, trustee };
+    match random.below(10) {
+        0 => turn(&mut sets.enrolled, issuer),
+        1 => turn(&mut sets.trust, trust(issuer, other)),
+        2 => turn(&mut sets.trust, trust(issuer, issuer)),
+        3 => turn(&mut sets.users, user),
+        4 => turn(&mut sets.roles, role),
+        5 => turn(&mut sets.permissions, permission),
+        6 => {
+            let role = role.number;
+            turn(&mut sets.held, Held { user, role });
+        }
+        7 | 8 => turn(&mut sets.grants, Grant { role, permission }),
+        _ => {
+            let senior = role;
+            let junior = own(other, world.name(random, Thing::Role));
+            turn(&mut sets.attachments, Attachment { senior, junior });
+        }
+    }
+}

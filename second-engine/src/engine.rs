@@ -1,0 +1,125 @@
+//! The second engine: starting and calling, on any words and any bytes.
+
+use crate::cascades::carry_out;
+use crate::lawful::lawful;
+use crate::record::{decode, Call};
+use crate::refusals::refusal;
+use crate::sets::{own, write_started, Sets, WORDS};
+
+/// "An answer is two numbers: a refusal (0 for accepted) and a verdict."
+#[derive(Clone, Copy, Debug, PartialEq, Eq)]
+pub struct Answer {
+    pub refusal: u16,
+    pub verdict: u16,
+}
+
+impl Answer {
+    /// As the library packs it.
+    pub fn packed(self) -> u64 {
+        u64::from(self.refusal) + 65536 * u64::from(self.verdict)
+    }
+}
+
+fn refused(refusal: u16) -> Answer {
+    Answer {
+        refusal,
+        verdict: 0,
+    }
+}
+
+pub const ACCEPTED: Answer = Answer {
+    refusal: 0,
+    verdict: 0,
+};
+
+/// "Starting gives only 0 or 1."
+pub fn start(words: &mut [u16]) -> Answer {
+    if words.len() != WORDS {
+        return refused(1);
+    }
+    write_started(words);
+    ACCEPTED
+}
+
+/// Plays one record; the words are read anew.
+pub fn call(words: &mut [u16], record: &[u8]) -> Answer {
+    // 1: "state not 9,025 words"
+    if words.len() != WORDS {
+        return refused(1);
+    }
+    // 2: "state not lawful"
+    let mut sets = Sets::read(words);
+    if !lawful(&sets) {
+        return refused(2);
+    }
+    let answer = play(&mut sets, record);
+    if answer.refusal == 0 {
+        sets.write(words);
+    }
+    answer
+}
+
+/// Plays one record on lawful sets.
+fn play(sets: &mut Sets, record: &[u8]) -> Answer {
+    // 3: "record under 5 bytes, length field wrong, kind unknown, or length wrong for the kind"
+    let Some(decoded) = decode(record) else {
+        return refused(3);
+    };
+    let number = refusal(sets, &decoded);
+    if number != 0 {
+        return refused(number);
+    }
+    carry_out(sets, &decoded);
+    // "The verdict is 1 only for kind 21 when an active role of an open session reaches a
+    // role that holds p; else 0."
+    let verdict = match decoded.call {
+        Call::MayUse {
+            permission,
+            issuer,
+            session,
+        } => sets.may_use(own(issuer, session), own(decoded.caller, permission)),
+        _ => false,
+    };
+    Answer {
+        refusal: 0,
+        verdict: u16::from(verdict),
+    }
+}
+
+/// A started state and its sets, kept between calls.
+#[derive(Clone)]
+pub struct Desk {
+    words: Vec<u16>,
+    sets: Sets,
+}
+
+impl Desk {
+    pub fn started() -> Desk {
+        let mut words = vec![0; WORDS];
+        start(&mut words);
+        let sets = Sets::default();
+        Desk { words, sets }
+    }
+
+    pub fn words(&self) -> &[u16] {
+        &self.words
+    }
+
+    pub fn sets(&self) -> &Sets {
+        &self.sets
+    }
+
+    /// What `call` does with the desk's words, without reading them anew.
+    pub fn call(&mut self, record: &[u8]) -> Answer {
+        let answer = play(&mut self.sets, record);
+        if answer.refusal == 0 {
+            self.sets.write(&mut self.words);
+        }
+        answer
+    }
+
+    /// The kept sets are what the words say, and lawful.
+    pub fn sound(&self) -> bool {
+        Sets::read(&self.words) == self.sets && lawful(&self.sets)
+    }
+}

@@ -1,0 +1,105 @@
+//! Random journals and pairs of histories on `libyermoitu.a`, against a plain second engine
+//! that was written from the paper alone.
+//!
+//! `cargo run --release` plays 300,000 calls and 300 pairs of histories; `cargo test` tries the
+//! engine itself on the paper's cases. `build.rs` says where the library is looked for.
+//!
+//! The engine: `sets`, `lawful`, `record`, `refusals`, `cascades`, `engine`. The journals:
+//! `worlds`, `records`, `lawful_states`, `damage`, `journals`. Demand 3: `histories`, `pairs`.
+
+mod cascades;
+mod cases;
+mod counts;
+mod damage;
+mod engine;
+mod histories;
+mod journals;
+mod lawful;
+mod lawful_states;
+mod library;
+mod pair_counts;
+mod pairs;
+mod random;
+mod record;
+mod records;
+mod refusals;
+mod report;
+mod sets;
+mod shrink;
+mod side_by_side;
+#[cfg(test)]
+mod tests;
+mod worlds;
+
+use counts::Counts;
+use pair_counts::PairCounts;
+use std::env;
+use std::process::ExitCode;
+
+const USAGE: &str = "second-engine [--calls N] [--pairs N] [--seed N] [--trace]";
+
+struct Options {
+    calls: u64,
+    pairs: u64,
+    seed: u64,
+    /// Prints every step before it is played, for a library that doesn't come back.
+    trace: bool,
+}
+
+fn options() -> Option<Options> {
+    let mut options = Options {
+        calls: 300_000,
+        pairs: 300,
+        seed: 20_260_101,
+        trace: false,
+    };
+    let mut arguments = env::args().skip(1);
+    while let Some(name) = arguments.next() {
+        match name.as_str() {
+            "--calls" => options.calls = arguments.next()?.parse().ok()?,
+            "--pairs" => options.pairs = arguments.next()?.parse().ok()?,
+            "--seed" => options.seed = arguments.next()?.parse().ok()?,
+            "--trace" => options.trace = true,
+            _ => return None,
+        }
+    }
+    Some(options)
+}
+
+fn main() -> ExitCode {
+    let Some(options) = options() else {
+        eprintln!("{USAGE}");
+        return ExitCode::from(2);
+    };
+    let Options {
+        calls,
+        pairs,
+        seed,
+        trace,
+    } = options;
+    println!("seed                      {seed}");
+    let mut missing = Vec::new();
+    if calls > 0 {
+        let mut counts = Counts::default();
+        if !journals::play_journals(seed, calls, trace, &mut counts) {
+            return ExitCode::FAILURE;
+        }
+        counts.print();
+        missing.extend(counts.missing());
+    }
+    if pairs > 0 {
+        let mut counts = PairCounts::default();
+        if !pairs::play_pairs(seed, pairs, trace, &mut counts) {
+            return ExitCode::FAILURE;
+        }
+        counts.print();
+        missing.extend(counts.missing());
+    }
+    println!("disagreements             0");
+    // A test that can't reach something says nothing about it.
+    if !missing.is_empty() {
+        println!("NEVER REACHED: {}", missing.join("; "));
+        return ExitCode::FAILURE;
+    }
+    ExitCode::SUCCESS
+}

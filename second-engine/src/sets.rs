@@ -1,0 +1,288 @@
+//! The state as plain sets, and the way between sets and words ("The state").
+
+use std::collections::{BTreeMap, BTreeSet};
+
+/// "The state is 9,025 unsigned 16-bit words."
+pub const WORDS: usize = 9025;
+
+/// A session's user word "when closed".
+pub const CLOSED: u16 = 65535;
+
+/// A thing that an issuer owns: i@u, i#r, i%p or i/s.
+#[derive(Clone, Copy, Debug, PartialEq, Eq, PartialOrd, Ord)]
+pub struct Own {
+    pub issuer: usize,
+    pub number: usize,
+}
+
+pub type User = Own;
+pub type Role = Own;
+pub type Permission = Own;
+pub type SessionName = Own;
+
+pub fn own(issuer: usize, number: usize) -> Own {
+    Own { issuer, number }
+}
+
+/// "Trust of i in j": i is the trustor, j the trustee.
+#[derive(Clone, Copy, Debug, PartialEq, Eq, PartialOrd, Ord)]
+pub struct Trust {
+    pub trustor: usize,
+    pub trustee: usize,
+}
+
+/// "Users hold roles of their own issuer only": the role is a number of the user's issuer.
+#[derive(Clone, Copy, Debug, PartialEq, Eq, PartialOrd, Ord)]
+pub struct Held {
+    pub user: User,
+    pub role: usize,
+}
+
+/// The role holds the permission.
+#[derive(Clone, Copy, Debug, PartialEq, Eq, PartialOrd, Ord)]
+pub struct Grant {
+    pub role: Role,
+    pub permission: Permission,
+}
+
+/// The junior is attached below the senior.
+#[derive(Clone, Copy, Debug, PartialEq, Eq, PartialOrd, Ord)]
+pub struct Attachment {
+    pub senior: Role,
+    pub junior: Role,
+}
+
+/// "A session has one user and a set of active roles", both numbers of the session's issuer.
+/// In an unlawful state the user may be any number below 65535.
+#[derive(Clone, Debug, PartialEq, Eq)]
+pub struct Session {
+    pub user: usize,
+    pub active: BTreeSet<usize>,
+}
+
+#[derive(Clone, Debug, Default, PartialEq, Eq)]
+pub struct Sets {
+    pub enrolled: BTreeSet<usize>,
+    pub trust: BTreeSet<Trust>,
+    pub users: BTreeSet<User>,
+    pub roles: BTreeSet<Role>,
+    pub permissions: BTreeSet<Permission>,
+    pub held: BTreeSet<Held>,
+    pub grants: BTreeSet<Grant>,
+    pub attachments: BTreeSet<Attachment>,
+    /// The open sessions.
+    pub sessions: BTreeMap<SessionName, Session>,
+    /// Active roles of closed sessions: none in a lawful state.
+    pub active_in_closed: BTreeSet<(SessionName, usize)>,
+}
+
+// Where each word lies.
+
+pub fn trust_word(i: usize) -> usize {
+    1 + i
+}
+
+pub fn users_word(i: usize) -> usize {
+    17 + i
+}
+
+pub fn roles_word(i: usize) -> usize {
+    33 + i
+}
+
+pub fn permissions_word(i: usize) -> usize {
+    49 + i
+}
+
+pub fn held_word(i: usize, u: usize) -> usize {
+    65 + 16 * i + u
+}
+
+/// Roles of i that hold j%p.
+pub fn grant_word(j: usize, p: usize, i: usize) -> usize {
+    321 + 16 * (16 * j + p) + i
+}
+
+/// Roles of i that are direct seniors of j#q.
+pub fn attachment_word(j: usize, q: usize, i: usize) -> usize {
+    4417 + 16 * (16 * j + q) + i
+}
+
+/// The session's user; the word after it has the active roles.
+pub fn session_word(i: usize, s: usize) -> usize {
+    8513 + 2 * (16 * i + s)
+}
+
+/// The numbers of a word's bits: "Bit n has weight 2 to the power n."
+fn bits(word: u16) -> impl Iterator<Item = usize> {
+    let end = if word == 0 { 0 } else { 16 };
+    (0..end).filter(move |n| word / (1 << n) % 2 == 1)
+}
+
+fn set_bit(word: &mut u16, n: usize) {
+    *word |= 1 << n;
+}
+
+impl Sets {
+    /// What 9,025 words say, lawful or not.
+    pub fn read(words: &[u16]) -> Sets {
+        assert_eq!(words.len(), WORDS);
+        let mut sets = Sets::default();
+        sets.enrolled.extend(bits(words[0]));
+        for i in 0..16 {
+            for trustee in bits(words[trust_word(i)]) {
+                sets.trust.insert(Trust {
+                    trustor: i,
+                    trustee,
+                });
+            }
+            sets.users
+                .extend(bits(words[users_word(i)]).map(|u| own(i, u)));
+            sets.roles
+                .extend(bits(words[roles_word(i)]).map(|r| own(i, r)));
+            sets.permissions
+                .extend(bits(words[permissions_word(i)]).map(|p| own(i, p)));
+            for n in 0..16 {
+                sets.read_held(words, own(i, n));
+                sets.read_grants(words, own(i, n));
+                sets.read_attachments(words, own(i, n));
+                sets.read_session(words, own(i, n));
+            }
+        }
+        sets
+    }
+
+    fn read_held(&mut self, words: &[u16], user: User) {
+        for role in bits(words[held_word(user.issuer, user.number)]) {
+            self.held.insert(Held { user, role });
+        }
+    }
+
+    fn read_grants(&mut self, words: &[u16], permission: Permission) {
+        for i in 0..16 {
+            for r in bits(words[grant_word(permission.issuer, permission.number, i)]) {
+                let role = own(i, r);
+                self.grants.insert(Grant { role, permission });
+            }
+        }
+    }
+
+    fn read_attachments(&mut self, words: &[u16], junior: Role) {
+        for i in 0..16 {
+            for r in bits(words[attachment_word(junior.issuer, junior.number, i)]) {
+                let senior = own(i, r);
+                self.attachments.insert(Attachment { senior, junior });
+            }
+        }
+    }
+
+    fn read_session(&mut self, words: &[u16], name: SessionName) {
+        let place = session_word(name.issuer, name.number);
+        let active = bits(words[place + 1]);
+        if words[place] == CLOSED {
+            self.active_in_closed
+                .extend(active.map(|role| (name, role)));
+        } else {
+            let user = usize::from(words[place]);
+            let active = active.collect();
+            self.sessions.insert(name, Session { user, active });
+        }
+    }
+
+    /// Writes the sets into 9,025 words; reading gives the same sets back.
+    pub fn write(&self, words: &mut [u16]) {
+        write_started(words);
+        for &issuer in &self.enrolled {
+            set_bit(&mut words[0], issuer);
+        }
+        for trust in &self.trust {
+            set_bit(&mut words[trust_word(trust.trustor)], trust.trustee);
+        }
+        for user in &self.users {
+            set_bit(&mut words[users_word(user.issuer)], user.number);
+        }
+        for role in &self.roles {
+            set_bit(&mut words[roles_word(role.issuer)], role.number);
+        }
+        for permission in &self.permissions {
+            let place = permissions_word(permission.issuer);
+            set_bit(&mut words[place], permission.number);
+        }
+        for held in &self.held {
+            let place = held_word(held.user.issuer, held.user.number);
+            set_bit(&mut words[place], held.role);
+        }
+        for Grant { role, permission } in &self.grants {
+            let place = grant_word(permission.issuer, permission.number, role.issuer);
+            set_bit(&mut words[place], role.number);
+        }
+        for Attachment { senior, junior } in &self.attachments {
+            let place = attachment_word(junior.issuer, junior.number, senior.issuer);
+            set_bit(&mut words[place], senior.number);
+        }
+        for (name, session) in &self.sessions {
+            let place = session_word(name.issuer, name.number);
+            words[place] = u16::try_from(session.user).expect("read from a word");
+            for &role in &session.active {
+                set_bit(&mut words[place + 1], role);
+            }
+        }
+        for (name, role) in &self.active_in_closed {
+            let place = session_word(name.issuer, name.number);
+            set_bit(&mut words[place + 1], *role);
+        }
+    }
+
+    pub fn trusts(&self, trustor: usize, trustee: usize) -> bool {
+        self.trust.contains(&Trust { trustor, trustee })
+    }
+
+    /// The roles attached directly below a role.
+    pub fn juniors(&self, senior: Role) -> impl Iterator<Item = Role> + '_ {
+        let first = own(0, 0);
+        let from = Attachment {
+            senior,
+            junior: first,
+        };
+        self.attachments
+            .range(from..)
+            .take_while(move |attachment| attachment.senior == senior)
+            .map(|attachment| attachment.junior)
+    }
+
+    /// "Every role reaches itself and whatever is attached below a role it reaches."
+    pub fn reached(&self, role: Role) -> BTreeSet<Role> {
+        let mut reached = BTreeSet::from([role]);
+        let mut to_visit = vec![role];
+        while let Some(senior) = to_visit.pop() {
+            for junior in self.juniors(senior) {
+                if reached.insert(junior) {
+                    to_visit.push(junior);
+                }
+            }
+        }
+        reached
+    }
+
+    /// "an active role of an open session reaches a role that holds p"
+    pub fn may_use(&self, name: SessionName, permission: Permission) -> bool {
+        let Some(session) = self.sessions.get(&name) else {
+            return false;
+        };
+        session.active.iter().any(|&active| {
+            self.reached(own(name.issuer, active))
+                .into_iter()
+                .any(|role| self.grants.contains(&Grant { role, permission }))
+        })
+    }
+}
+
+/// "Starting writes 65535 as each session's user and 0 elsewhere."
+pub fn write_started(words: &mut [u16]) {
+    words.fill(0);
+    for i in 0..16 {
+        for s in 0..16 {
+            words[session_word(i, s)] = CLOSED;
+        }
+    }
+}

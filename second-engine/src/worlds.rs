@@ -1,0 +1,102 @@
+//! The few names that a journal uses, and how often it makes each call.
+
+use crate::random::Random;
+
+/// What an argument names.
+#[derive(Clone, Copy)]
+pub enum Thing {
+    Issuer,
+    User,
+    Role,
+    Permission,
+    Session,
+}
+
+/// The arguments of each kind, from 1 to 21.
+pub fn arguments(kind: usize) -> &'static [Thing] {
+    use Thing::{Issuer, Permission, Role, Session, User};
+    match kind {
+        1..=4 => &[Issuer],
+        5 | 6 => &[User],
+        7 | 8 => &[Role],
+        9 | 10 => &[Permission],
+        11 | 12 => &[User, Role],
+        13 | 14 => &[Permission, Issuer, Role],
+        15 | 16 => &[Role, Issuer, Role],
+        17 => &[Session, User],
+        18 => &[Session],
+        19 | 20 => &[Session, Role],
+        21 => &[Permission, Issuer, Session],
+        _ => unreachable!("kinds are 1 to 21"),
+    }
+}
+
+/// How often each kind is tried, from kind 1 on: many things come, or as many go, or more go.
+#[rustfmt::skip]
+const COMING: [usize; 21] = [
+    30, 1, 40, 2, 25, 2, 40, 3, 25, 2, 50, 3, 50, 3, 90, 4, 40, 2, 80, 4, 80,
+];
+#[rustfmt::skip]
+const BALANCED: [usize; 21] = [
+    30, 2, 30, 6, 25, 5, 35, 7, 20, 6, 50, 14, 40, 14, 60, 18, 35, 8, 70, 20, 90,
+];
+#[rustfmt::skip]
+const GOING: [usize; 21] = [
+    20, 4, 20, 12, 15, 10, 20, 14, 12, 12, 35, 20, 25, 20, 35, 25, 25, 14, 50, 25, 80,
+];
+
+pub struct World {
+    issuers: Vec<usize>,
+    users: Vec<usize>,
+    roles: Vec<usize>,
+    permissions: Vec<usize>,
+    sessions: Vec<usize>,
+    weights: &'static [usize; 21],
+    /// Attachments make long chains, and grants go to their lower ends.
+    pub deep: bool,
+}
+
+impl World {
+    pub fn new(random: &mut Random) -> World {
+        let mut names = |few: usize, many: usize| {
+            let count = match random.below(20) {
+                0 => 16,
+                1..=3 => random.between(many, 16),
+                _ => random.between(few, many),
+            };
+            random.names(count)
+        };
+        World {
+            issuers: names(2, 5),
+            users: names(1, 3),
+            roles: names(2, 6),
+            permissions: names(1, 3),
+            sessions: names(1, 3),
+            weights: &COMING,
+            deep: random.percent(50),
+        }
+    }
+
+    /// Now and then the calls become more building or more clearing.
+    pub fn change_mood(&mut self, random: &mut Random) {
+        self.weights = random.pick(&[&COMING, &COMING, &BALANCED, &BALANCED, &GOING]);
+    }
+
+    pub fn kind(&self, random: &mut Random) -> usize {
+        1 + random.weighted(self.weights)
+    }
+
+    pub fn names(&self, thing: Thing) -> &[usize] {
+        match thing {
+            Thing::Issuer => &self.issuers,
+            Thing::User => &self.users,
+            Thing::Role => &self.roles,
+            Thing::Permission => &self.permissions,
+            Thing::Session => &self.sessions,
+        }
+    }
+
+    pub fn name(&self, random: &mut Random, thing: Thing) -> usize {
+        random.pick(self.names(thing))
+    }
+}
