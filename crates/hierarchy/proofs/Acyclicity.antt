@@ -3,7 +3,7 @@ use mathlib.Core.Path.{_≡_, refl, ap, sym, subst, _∙_}
 use mathlib.Core.Logic.{_↔_}
 use mathlib.Core.Bool.{true, false, not}
 use mathlib.Core.List.{List}
-use Prim.Native.Nat.{ℕ, zero, suc, _+_, _-_, _*_, _<_, _≤_}
+use Prim.Native.Nat.{ℕ, zero, suc, _+_, _-_, _*_, _<_}
 use native.Mathlib.Omega.{arith}
 use borrow.Author.Tests.{eqb-true, eq-eqb}
 use lib.Bits.{bitAnd}
@@ -14,7 +14,7 @@ use Rattle.bits.specs.Gather.{gather}
 use Rattle.bits.proofs.Below.{tally-more}
 use Rattle.bits.proofs.Bit.{bit-0, bit-not}
 use Rattle.bits.proofs.Booleans.{untrue}
-use Rattle.mtas.specs.Hierarchy.{Role, Graph, Reaches, itself, down, Acyclic, nth-role, reaches}
+use Rattle.mtas.specs.Hierarchy.{Role, Graph, itself, down, Acyclic, nth-role, reaches}
 use Rattle.mtas.proofs.Hierarchy.{Numbered, reaches-sound, reaches-complete}
 use Rattle.hierarchy.specs.Links.{among, Full}
 use Rattle.hierarchy.specs.Freed.{AllFree, Filled}

@@ -14,7 +14,7 @@ use Rattle.bits.specs.Bit.{bit, with-bit}
 use Rattle.bits.specs.RoleSet.{Added}
 use Rattle.bits.proofs.Bit.{bit-0, bit-with}
 use Rattle.bits.proofs.Booleans.{clash, and-left, and-right, and-intro, or-cases, or-left, or-right}
-use Rattle.mtas.specs.Hierarchy.{Role, _#_, Graph, Reaches, itself, down, nth-role}
+use Rattle.mtas.specs.Hierarchy.{Role, _#_, Graph, itself, down, nth-role}
 use Rattle.mtas.proofs.Hierarchy.{Numbered, then}
 use Rattle.hierarchy.specs.Links.{among, Within}
 use Rattle.hierarchy.specs.Freed.{Free, AllFree, Due, TopsOf, Freed, Visited, Swept, Filled}

@@ -1,5 +1,5 @@
 -- A window over one word of sixteen: the set with one role more.
-use mathlib.Core.Path.{_≡_, refl, ap, ap₂, sym, _∙_}
+use mathlib.Core.Path.{_≡_, refl, ap, sym, _∙_}
 use mathlib.Core.Logic.{_⊎_, inl, inr}
 use mathlib.Core.Bool.{Bool, true, false, not, cond, _&&_, _||_, or-false, and-false}
 use mathlib.Core.List.{List}

@@ -41,9 +41,9 @@ fn lift(links: &[u16], i: usize, word: u16, mut seen: RoleSet) -> RoleSet
 }
 
 // A climb: the roles seen, and those whose direct seniors are seen too.
-pub struct Climb {
-    pub seen: [u16; 16],
-    pub done: [u16; 16],
+struct Climb {
+    seen: [u16; 16],
+    done: [u16; 16],
 }
 
 // Every role seen is done, issuer by issuer.

@@ -1,6 +1,5 @@
 // The reference monitor (document 01's desk): starting, and a call record played on the lent state.
 ghost use mathlib.Core.Path.{_≡_};
-ghost use Prim.Native.Nat.{_<_};
 ghost use lib.ListN.{length};
 ghost use Rattle.bits.specs.Update.{Updated};
 ghost use Rattle.mtas.specs.Layout.{state-length};

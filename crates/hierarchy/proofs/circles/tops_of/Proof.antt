@@ -3,10 +3,10 @@ use borrow.Author.Needs.{needs}
 use mathlib.Core.Path.{_≡_, refl, subst}
 use mathlib.Core.Bool.{true}
 use mathlib.Core.Logic.{⊎-elim}
-use Prim.Native.Nat.{_+_, _-_, _*_, _≤_, _<_}
+use Prim.Native.Nat.{_+_, _-_, _*_, _≤_}
 use native.Mathlib.Omega.{arith}
 use Rattle.bits.proofs.Booleans.{clash}
-use Rattle.mtas.specs.Hierarchy.{Role, _#_, nth-role}
+use Rattle.mtas.specs.Hierarchy.{Role, _#_}
 use Rattle.hierarchy.specs.Links.{linked}
 use Rattle.hierarchy.specs.Freed.{TopsOf}
 use Rattle.hierarchy.proofs.Links.{role-at}
