@@ -1,6 +1,7 @@
 -- Bits of words. Bit n has weight 2 to the power n (document 01, 'The state').
+use mathlib.Core.Path.{_≡_}
 use mathlib.Core.Bool.{Bool, true, false}
-use Prim.Native.Nat.{ℕ, zero, suc, _+_, _-_, _*_, _/_, _%_, _^_}
+use Prim.Native.Nat.{ℕ, zero, suc, _+_, _-_, _*_, _/_, _%_, _^_, _<_}
 use lib.Bits.{bitAnd, bitOr}
 use lib.Dec.{eqb}
 
@@ -23,3 +24,9 @@ with-bit w n = bitOr w (2 ^ n)
 
 unfoldable pub without-bit : ℕ → ℕ → ℕ
 without-bit w n = bitAnd w (65535 - 2 ^ n)
+
+-- n is the lowest bit of the word w
+pub record Lowest (w n : ℕ) : Type 0 where
+  pub place : n < 16
+  pub is-set : bit w n ≡ true
+  pub none-lower : (m : ℕ) → m < n → bit w m ≡ false

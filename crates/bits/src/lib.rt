@@ -1,11 +1,11 @@
 // Bits of 16-bit words, sets of roles, and words of a lent slice masked or gathered.
 // The definitions that the contracts cite are in specs/; their laws, and the proofs, in proofs/.
 ghost use mathlib.Core.Path.{_≡_};
-ghost use mathlib.Core.Bool.{true, false};
+ghost use mathlib.Core.Bool.{false};
 ghost use Prim.Native.Nat.{ℕ, _+_, _-_, _*_, _<_, _≤_};
 ghost use lib.ListN.{length, getD};
 ghost use lib.Bits.{bitAnd};
-ghost use Rattle.bits.specs.Bit.{bit, with-bit, without-bit};
+ghost use Rattle.bits.specs.Bit.{bit, with-bit, without-bit, Lowest};
 ghost use Rattle.bits.specs.RoleSet.{in-set, Row, Added, Union};
 ghost use Rattle.bits.specs.Update.{Masked};
 ghost use Rattle.bits.specs.Stride.{in-run, in-column};
@@ -35,7 +35,7 @@ pub fn without_bit(w: u16, n: u8) -> u16
 // The lowest bit of a word that has one.
 pub fn lowest_bit(w: u16) -> u8
     requires { ⌜ (w ≡ 0 → ⊥) ⌝ }
-    ensures { λ n. ⌜ (n < 16) × (bit w n ≡ true) ⌝ }
+    ensures { λ n. ⌜ Lowest w n ⌝ }
 {
     u16::trailing_zeros(w) as u8
 }

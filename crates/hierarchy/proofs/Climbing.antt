@@ -21,7 +21,7 @@ use Rattle.bits.proofs.Roles.{in-empty}
 use Rattle.mtas.specs.Hierarchy.{Role, _#_, Graph, Reaches, itself, down}
 use Rattle.mtas.proofs.Hierarchy.{Numbered, then}
 use Rattle.hierarchy.specs.Links.{linked, among, Within, Reaching, ReachesInto}
-use Rattle.hierarchy.specs.Climbing.{Inside, AllReach, Lifted, Climbing, Climbed}
+use Rattle.hierarchy.specs.Climbing.{BitsIn, AllReach, Lifted, Climbing, Climbed}
 use Rattle.hierarchy.proofs.Links.{linked-bit, linked-numbered}
 use Rattle.hierarchy.proofs.Rows.{Wide}
 use Rattle.hierarchy.proofs.Freed.{within-itself, within-then}
@@ -30,13 +30,13 @@ use Rattle.hierarchy.proofs.Sizes.{size, fewer-outside}
 -- ---- lifting the roles of one issuer, one by one
 -- all but the roles of the rest
 pub record LiftedBut (below : Graph) (i word rest : ℕ) (before after : List ℕ) : Type 0 where
-  pub inside : Inside rest after i
+  pub inside : BitsIn rest after i
   pub kept : Within before after
   pub seniors : (r : ℕ) → r < 16 → in-set after i r ≡ true → (in-set before i r ≡ true → bit word r ≡ true) → bit rest r ≡ false
       → (a : Role) → below a (i # r) ≡ true → among after a ≡ true
   pub only : (from : List ℕ) → AllReach below from before → AllReach below from after
 
-pub lifted-none : {e : Graph} {i word : ℕ} {s : List ℕ} → Inside word s i → LiftedBut e i word word s s
+pub lifted-none : {e : Graph} {i word : ℕ} {s : List ℕ} → BitsIn word s i → LiftedBut e i word word s s
 lifted-none h = record { inside = h; kept = within-itself; seniors = λ r l x w n. absurd (clash (w x) n); only = λ from f. f }
 
 pub lifted-all : {e : Graph} {i word rest : ℕ} {s t : List ℕ} → rest ≡ 0 → LiftedBut e i word rest s t → Lifted e i word s t
@@ -107,7 +107,7 @@ module _ (links : List ℕ) (i r rest : ℕ) (s row t : List ℕ) (li : i < 16) 
           let (b, lb, mb, h, p) = u .only from f (i # r) li lr (u .inside r lr on) in
           (b, lb, mb, h, then (down itself (sym (in-row a l m) ∙ x)) p)
 
-  more-lifted : Inside rest s i → tally 16 (λ q. in-set s i q && not (bit rest q)) < tally 16 (λ q. in-set t i q && not (bit rest′ q))
+  more-lifted : BitsIn rest s i → tally 16 (λ q. in-set s i q && not (bit rest q)) < tally 16 (λ q. in-set t i q && not (bit rest′ q))
   more-lifted ins =
       tally-more (λ q. in-set s i q && not (bit rest q)) (λ q. in-set t i q && not (bit rest′ q)) 16
       (λ q l h. let x = and-left (in-set s i q) _ h in and-intro (in-set t i q) _ (from-old .each (i # q) li l x) (ap not (none q l x (not-true _ (and-right (in-set s i q) _ h)))))
@@ -126,7 +126,7 @@ module _ (links : List ℕ) (i r rest : ℕ) (s row t : List ℕ) (li : i < 16) 
           ∙ both-false _ _ (ap (λ y. bit rest r && not y) (eq-eqb r r refl) ∙ and-false (bit rest r)) (ap (λ y. in-set row i r && not y) x ∙ and-false (in-set row i r))
 
   -- fewer roles of i are not lifted
-  pub fewer-left : Inside rest s i → 16 - tally 16 (λ q. in-set t i q && not (bit rest′ q)) < 16 - tally 16 (λ q. in-set s i q && not (bit rest q))
+  pub fewer-left : BitsIn rest s i → 16 - tally 16 (λ q. in-set t i q && not (bit rest′ q)) < 16 - tally 16 (λ q. in-set s i q && not (bit rest q))
   fewer-left ins = omega (arith, more-lifted ins, tally-le 16 (λ q. in-set t i q && not (bit rest′ q)))
 
 -- ---- one round, issuer by issuer
@@ -151,7 +151,7 @@ module _ {e : Graph} (num : Numbered e) (n : ℕ) (ln : n < 16) (seen′ done′
   word-bit : (q : ℕ) → q < 16 → bit word q ≡ in-set seen′ n q && not (in-set done′ n q)
   word-bit q l = bit-and (getD seen′ n 0) (65535 - getD done′ n 0) q ∙ ap (λ x. in-set seen′ n q && x) (bit-not 16 (getD done′ n 0) q (u .wide .each n .fits) l)
 
-  pub word-inside : Inside word seen′ n
+  pub word-inside : BitsIn word seen′ n
   word-inside q l h = and-left (in-set seen′ n q) _ (sym (word-bit q l) ∙ h)
 
   -- nothing to lift

@@ -9,8 +9,8 @@ use Rattle.mtas.specs.Hierarchy.{Role, _#_, Graph}
 use Rattle.hierarchy.specs.Links.{among, Within, ReachesInto}
 
 -- the bits of the word are roles of issuer i in the set
-abbrev pub Inside : ℕ → List ℕ → ℕ → Type 0
-Inside word set i = (r : ℕ) → r < 16 → bit word r ≡ true → in-set set i r ≡ true
+abbrev pub BitsIn : ℕ → List ℕ → ℕ → Type 0
+BitsIn word set i = (r : ℕ) → r < 16 → bit word r ≡ true → in-set set i r ≡ true
 
 -- every role of the set reaches one of the other
 abbrev pub AllReach : Graph → List ℕ → List ℕ → Type 0

@@ -4,7 +4,7 @@ ghost use mathlib.Core.Path.{_≡_};
 ghost use Prim.Native.Nat.{_<_};
 ghost use lib.ListN.{length, take, drop};
 ghost use Rattle.hierarchy.specs.Links.{linked, Reaching};
-ghost use Rattle.hierarchy.specs.Climbing.{Inside, Lifted, Climbed};
+ghost use Rattle.hierarchy.specs.Climbing.{BitsIn, Lifted, Climbed};
 use bits::RoleSet;
 
 mod circles;
@@ -25,7 +25,7 @@ pub fn attachments_of(state: &[u16]) -> [u16; 4096]
 
 // The direct seniors of the roles of issuer i that are bits of the word are seen too, and those of the roles of i that come so.
 fn lift(links: &[u16], i: usize, word: u16, mut seen: RoleSet) -> RoleSet
-    requires { ⌜ (length (now links) ≡ 4096) × (i < 16) × Inside word (seen .words) i ⌝ }
+    requires { ⌜ (length (now links) ≡ 4096) × (i < 16) × BitsIn word (seen .words) i ⌝ }
     ensures { λ r. ⌜ Lifted (linked (now (links .entry))) i word (seen .words) (r .words) ⌝ }
 {
     let mut rest = word;

@@ -12,7 +12,7 @@ use Rattle.mtas.specs.Answer.{accepted, refused, outcome, Outcome, verdict-of, 
 use Rattle.mtas.specs.Layout.{state-length, view, encode}
 use Rattle.mtas.specs.LawTest.{LawfulWords, lawful-words}
 use Rattle.mtas.specs.Record.{decode}
-use Rattle.mtas.specs.Monitor.{answered, played, monitor}
+use Rattle.mtas.specs.Monitor.{answered, state-after, monitor}
 use Rattle.mtas.proofs.LawTest.{lawful-words-sound}
 use Rattle.mtas.proofs.Monitor.{monitor-lawful, accepted-zero}
 use Rattle.mtas.proofs.Words.{encode-view}
@@ -54,10 +54,10 @@ accepted-verdict st c k e = rw e
 -- d is the record decoded
 module _ {ws : List ℕ} (b : List ℕ) (W : LawfulWords ws) {d : Decoded} (e : request-of d ≡ decode b) where
   -- the table's answer to the record, and the words that it leaves
-  given : {x : Decoded} → d ≡ x → monitor ws b ≡ record { answer = answered (view ws) (request-of x); words = encode (played (view ws) (request-of x)) }
+  given : {x : Decoded} → d ≡ x → monitor ws b ≡ record { answer = answered (view ws) (request-of x); words = encode (state-after (view ws) (request-of x)) }
   given h =
       monitor-lawful ws b W
-      ∙ ap (λ q. record { answer = answered (view ws) q; words = encode (played (view ws) q) }) (sym e ∙ ap request-of h)
+      ∙ ap (λ q. record { answer = answered (view ws) q; words = encode (state-after (view ws) q) }) (sym e ∙ ap request-of h)
 
   pub undecoded : d ≡ Undecodable → Gives (monitor ws b) 3 0 ws
   undecoded h = rw (given h) (record { same-refusal = refl; same-verdict = refl; same-words = sym (encode-view ws W) })

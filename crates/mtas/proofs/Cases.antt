@@ -15,14 +15,14 @@ use Rattle.mtas.specs.Law.{In, here, there, Lawful}
 use Rattle.mtas.specs.Answer.{first-cause, outcome, leads-to, may-use, answer, next}
 use Rattle.mtas.specs.Layout.{encode}
 use Rattle.mtas.specs.Record.{decode}
-use Rattle.mtas.specs.Monitor.{answered, played}
+use Rattle.mtas.specs.Monitor.{answered, state-after}
 use Rattle.mtas.specs.Histories.{History, final}
 use Rattle.mtas.specs.Cases.{S-facts, S, Case, try, twelve-cases, further-cases, NoneStand, Holds, Every}
 use Rattle.mtas.proofs.Facts.{All, all-in, put-new, put-cases, below-16}
 use Rattle.mtas.proofs.Law.{nothing-lawful, put-lawful, put-acyclic}
 use Rattle.mtas.proofs.Step.{differ}
 use Rattle.mtas.proofs.Words.{view-encode}
-use Rattle.mtas.proofs.Monitor.{monitor-encode, played-lawful}
+use Rattle.mtas.proofs.Monitor.{monitor-encode, state-after-lawful}
 
 -- each fact of S has what it needs in S
 S-supported : All (λ f. All (λ g. In g S-facts) (needs f)) S-facts
@@ -57,17 +57,17 @@ S-lawful =
 -- ---- a history on states
 unfoldable after-all : State → History → State
 after-all st [] = st
-after-all st (b ∷ h) = after-all (played st (decode b)) h
+after-all st (b ∷ h) = after-all (state-after st (decode b)) h
 
 after-lawful : (h : History) (st : State) → Lawful st → Lawful (after-all st h)
 unfolding after-all
 after-lawful [] st L = L
-after-lawful (b ∷ h) st L = after-lawful h (played st (decode b)) (played-lawful st L (decode b))
+after-lawful (b ∷ h) st L = after-lawful h (state-after st (decode b)) (state-after-lawful st L (decode b))
 
 final-is : (h : History) (st : State) → Lawful st → final (encode st) h ≡ encode (after-all st h)
 unfolding final after-all
 final-is [] st L = refl
-final-is (b ∷ h) st L = rw (monitor-encode st L b) (final-is h (played st (decode b)) (played-lawful st L (decode b)))
+final-is (b ∷ h) st L = rw (monitor-encode st L b) (final-is h (state-after st (decode b)) (state-after-lawful st L (decode b)))
 
 abbrev OnStates : Case → Type 0
 OnStates (try earlier b refusal verdict gone) =

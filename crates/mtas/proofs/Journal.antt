@@ -16,12 +16,12 @@ use Rattle.mtas.specs.Law.{Lawful}
 use Rattle.mtas.specs.Answer.{first-cause, outcome, leads-to, may-use, answer, next}
 use Rattle.mtas.specs.Layout.{encode}
 use Rattle.mtas.specs.Record.{two-bytes, decode}
-use Rattle.mtas.specs.Monitor.{answered, played}
+use Rattle.mtas.specs.Monitor.{answered, state-after}
 use Rattle.mtas.specs.Histories.{History}
 use Rattle.mtas.specs.Journal.{whole, first-of, Reading, read-from, read-journal, Line, line-of, lines-from, last-line, output}
 use Rattle.mtas.specs.Cases.{example-journal, example-lines, JournalEnds}
 use Rattle.mtas.proofs.Law.{nothing-lawful}
-use Rattle.mtas.proofs.Monitor.{initial-is-nothing, monitor-encode, played-lawful}
+use Rattle.mtas.proofs.Monitor.{initial-is-nothing, monitor-encode, state-after-lawful}
 
 -- 5 bytes or more, with their number in front
 abbrev pub Whole : List ℕ → Type 0
@@ -64,14 +64,14 @@ read-back (b ∷ h) w at n rest =
 unfoldable state-lines : ℕ → State → History → List Line
 state-lines place st [] = []
 state-lines place st (b ∷ h) =
-    line-of place b (record { answer = answered st (decode b); words = [] }) ∷ state-lines (suc place) (played st (decode b)) h
+    line-of place b (record { answer = answered st (decode b); words = [] }) ∷ state-lines (suc place) (state-after st (decode b)) h
 
 lines-are : (h : History) (place : ℕ) (st : State) → Lawful st → lines-from place (encode st) h ≡ state-lines place st h
 unfolding lines-from state-lines
 lines-are [] place st L = refl
 lines-are (b ∷ h) place st L =
     rw (monitor-encode st L b)
-    (ap (λ l. line-of place b (record { answer = answered st (decode b); words = [] }) ∷ l) (lines-are h (suc place) (played st (decode b)) (played-lawful st L (decode b))))
+    (ap (λ l. line-of place b (record { answer = answered st (decode b); words = [] }) ∷ l) (lines-are h (suc place) (state-after st (decode b)) (state-after-lawful st L (decode b))))
 
 abbrev read-example : Reading
 read-example = read-journal example-journal

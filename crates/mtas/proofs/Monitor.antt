@@ -16,7 +16,7 @@ use Rattle.mtas.specs.Answer.{Outcome, accepted, refused, outcome, answe
 use Rattle.mtas.specs.Layout.{Word, enrolled-issuers, trusted, users, roles, permissions, held, holders, seniors, session-user, active-roles, state-length, word-at, contents, encode, view}
 use Rattle.mtas.specs.LawTest.{LawfulWords, lawful-words}
 use Rattle.mtas.specs.Record.{Request, undecodable, request, decode}
-use Rattle.mtas.specs.Monitor.{turned-down, initial, initial-words, answered, played, monitor}
+use Rattle.mtas.specs.Monitor.{turned-down, initial, initial-words, answered, state-after, monitor}
 use Rattle.mtas.proofs.Law.{nothing-lawful}
 use Rattle.mtas.proofs.Step.{next-lawful, refused-equal}
 use Rattle.mtas.proofs.Words.{view-encode, encode-view, encode-lawful}
@@ -43,22 +43,22 @@ initial-is-nothing = ap (tabulate state-length) (fun-ext (λ k. initial-contents
 pub initial-lawful : LawfulWords initial-words
 initial-lawful = rw initial-is-nothing (encode-lawful nothing nothing-lawful)
 
-pub played-lawful : (st : State) → Lawful st → (x : Request) → Lawful (played st x)
-played-lawful st L undecodable = L
-played-lawful st L (request c k) = next-lawful st L c k
+pub state-after-lawful : (st : State) → Lawful st → (x : Request) → Lawful (state-after st x)
+state-after-lawful st L undecodable = L
+state-after-lawful st L (request c k) = next-lawful st L c k
 
 -- the monitor on lawful words, and on the words of a lawful state
-pub monitor-lawful : (ws b : List ℕ) → LawfulWords ws → monitor ws b ≡ record { answer = answered (view ws) (decode b); words = encode (played (view ws) (decode b)) }
+pub monitor-lawful : (ws b : List ℕ) → LawfulWords ws → monitor ws b ≡ record { answer = answered (view ws) (decode b); words = encode (state-after (view ws) (decode b)) }
 unfolding monitor
 monitor-lawful ws b W =
     let l : eqb (length ws) state-length ≡ true = eq-eqb _ _ (W .long) in
     let j : lawful-words ws ≡ true = lawful-words-complete ws W in
     rw (l, j, monitor)
 
-pub monitor-encode : (st : State) → Lawful st → (b : List ℕ) → monitor (encode st) b ≡ record { answer = answered st (decode b); words = encode (played st (decode b)) }
+pub monitor-encode : (st : State) → Lawful st → (b : List ℕ) → monitor (encode st) b ≡ record { answer = answered st (decode b); words = encode (state-after st (decode b)) }
 monitor-encode st L b =
     monitor-lawful (encode st) b (encode-lawful st L)
-    ∙ ap (λ x. record { answer = answered x (decode b); words = encode (played x (decode b)) }) (view-encode st L)
+    ∙ ap (λ x. record { answer = answered x (decode b); words = encode (state-after x (decode b)) }) (view-encode st L)
 
 -- every other word list is turned down
 pub monitor-cases : (ws b : List ℕ) → (LawfulWords ws) ⊎ ((n : ℕ) × (monitor ws b ≡ turned-down (suc n) ws))
@@ -78,7 +78,7 @@ accepted-zero st c k e = rw e
 pub refused-words : (ws b : List ℕ) → ((monitor ws b) .answer .refusal ≡ 0 → ⊥) → (monitor ws b) .words ≡ ws
 refused-words ws b h = go (monitor-cases ws b)
   where
-    back : (x : Request) → LawfulWords ws → (answered (view ws) x .refusal ≡ 0 → ⊥) → encode (played (view ws) x) ≡ ws
+    back : (x : Request) → LawfulWords ws → (answered (view ws) x .refusal ≡ 0 → ⊥) → encode (state-after (view ws) x) ≡ ws
     back undecodable W n = encode-view ws W
     back (request c k) W n = by (outcome (view ws) c k) refl
       where
@@ -92,4 +92,4 @@ refused-words ws b h = go (monitor-cases ws b)
 
 -- what the monitor leaves of lawful words is lawful
 pub monitor-keeps : (ws b : List ℕ) → LawfulWords ws → LawfulWords ((monitor ws b) .words)
-monitor-keeps ws b W = rw (monitor-lawful ws b W) (encode-lawful _ (played-lawful (view ws) (W .lawful) (decode b)))
+monitor-keeps ws b W = rw (monitor-lawful ws b W) (encode-lawful _ (state-after-lawful (view ws) (W .lawful) (decode b)))

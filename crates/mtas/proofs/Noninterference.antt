@@ -19,7 +19,7 @@ use Rattle.mtas.specs.Answer.{accepted, outcome, answer}
 use Rattle.mtas.specs.Decision.{MayUse}
 use Rattle.mtas.specs.Layout.{Word, enrolled-issuers, trusted, users, roles, permissions, held, holders, seniors, session-user, active-roles, packed, contents, encode, read, view}
 use Rattle.mtas.specs.Record.{Request, undecodable, request, decode, inside, remains}
-use Rattle.mtas.specs.Monitor.{initial-words, answered, played, monitor}
+use Rattle.mtas.specs.Monitor.{initial-words, answered, state-after, monitor}
 use Rattle.mtas.specs.Histories.{History, final, purge, answers, TrustRefused, NoTrustIn, SameInName, Noninterference}
 use Rattle.mtas.proofs.Facts.{below-16}
 use Rattle.mtas.proofs.Guards.{Clear, passed}
@@ -65,7 +65,7 @@ module _ (member : ℕ → Bool) where
   -- one record: outsiders' change nothing seen, those inside are answered alike
   module _ (st st' : State) (S : Secure ins st) (S' : Secure ins st') (A : Agree ins st st') (b : List ℕ) where
     abbrev Goes : Request → Request → Type 0
-    Goes x y = Secure ins (played st x) × Secure ins (played st' y) × Agree ins (played st x) (played st' y)
+    Goes x y = Secure ins (state-after st x) × Secure ins (state-after st' y) × Agree ins (state-after st x) (state-after st' y)
 
     inside-step : (x : Request) → remains member x ≡ true → ((c : ℕ) (k : Call) → x ≡ request c k → Calm ins st c k) → (answered st x ≡ answered st' x) × Goes x x
     inside-step undecodable r q = absurd (clash r refl)
@@ -92,20 +92,20 @@ module _ (member : ℕ → Bool) where
   }
   twins (b ∷ h) st st' S S' A q = go (twins h) (remains member (decode b)) refl
     where
-      m : monitor (encode st) b ≡ record { answer = answered st (decode b); words = encode (played st (decode b)) }
+      m : monitor (encode st) b ≡ record { answer = answered st (decode b); words = encode (state-after st (decode b)) }
       m = monitor-encode st (S .lawful) b
 
-      m' : monitor (encode st') b ≡ record { answer = answered st' (decode b); words = encode (played st' (decode b)) }
+      m' : monitor (encode st') b ≡ record { answer = answered st' (decode b); words = encode (state-after st' (decode b)) }
       m' = monitor-encode st' (S' .lawful) b
 
-      q' : NoTrustIn member (encode (played st (decode b))) h
+      q' : NoTrustIn member (encode (state-after st (decode b))) h
       q' = rw m at (q .1)
 
       go : ((x x' : State) → Secure ins x → Secure ins x' → Agree ins x x' → NoTrustIn member (encode x) h → Twins (encode x) (encode x') h (purge member h))
           → (r : Bool) → remains member (decode b) ≡ r → Twins (encode st) (encode st') (b ∷ h) (purge member (b ∷ h))
       go rec true e =
           let s = inside-step st st' S S' A b (decode b) e (calm st (S .lawful) b (q .0)) in
-          let t : Twins (encode (played st (decode b))) (encode (played st' (decode b))) h (purge member h) = rec (played st (decode b)) (played st' (decode b)) (s .1 .0) (s .1 .1) (s .1 .2) q' in
+          let t : Twins (encode (state-after st (decode b))) (encode (state-after st' (decode b))) h (purge member h) = rec (state-after st (decode b)) (state-after st' (decode b)) (s .1 .0) (s .1 .1) (s .1 .2) q' in
           rw (e, purge) (record {
             same-answers = rw (e, answers) (rw (m, m') (ap₂ _∷_ (s .0) (t .same-answers)));
             left = t .left;
@@ -118,7 +118,7 @@ module _ (member : ℕ → Bool) where
           })
       go rec false e =
           let s = outside-step st st' S S' A b (decode b) e (calm st (S .lawful) b (q .0)) in
-          let t : Twins (encode (played st (decode b))) (encode st') h (purge member h) = rec (played st (decode b)) st' (s .0) S' (s .2) q' in
+          let t : Twins (encode (state-after st (decode b))) (encode st') h (purge member h) = rec (state-after st (decode b)) st' (s .0) S' (s .2) q' in
           rw (e, purge) (record {
             same-answers = rw (e, answers) (rw m (t .same-answers));
             left = t .left;

@@ -45,9 +45,9 @@ abbrev pub answered : State → Request → Answer
 answered st undecodable = record { refusal = 3; verdict = 0 }
 answered st (request c k) = answer st c k
 
-abbrev pub played : State → Request → State
-played st undecodable = st
-played st (request c k) = next st c k
+abbrev pub state-after : State → Request → State
+state-after st undecodable = st
+state-after st (request c k) = next st c k
 
 -- a record of any bytes on a state of any words
 unfoldable pub monitor : List ℕ → List ℕ → Result
@@ -58,6 +58,6 @@ monitor ws record-bytes =
           elim (lawful-words ws) [
             | false ↦ turned-down 2 ws
             | true ↦
-                record { answer = answered (view ws) (decode record-bytes); words = encode (played (view ws) (decode record-bytes)) }
+                record { answer = answered (view ws) (decode record-bytes); words = encode (state-after (view ws) (decode record-bytes)) }
           ]
     ]

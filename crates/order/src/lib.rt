@@ -65,7 +65,7 @@ fn to_index(b: u8) -> usize
 }
 
 // The roles outside a set, seniors before juniors where there is such an order: a search in depth, from junior to senior.
-// In that case 511 steps are enough, 255 up and 256 back.
+// In that case 511 steps are enough, 255 up and 256 back. Only its bound is promised, since any order is right.
 pub fn search(links: &[u16], tops: RoleSet) -> Order
     requires { ⌜ length (now links) ≡ 4096 ⌝ }
     ensures { λ r. ⌜ r .count ≤ 256 ⌝ }

@@ -22,18 +22,18 @@ loop-less c =
     let i = c .before .before .before .before .before .before .before .before .before .args .i in
     let l = c .before .before .before .before .before .before .before .loop in
     let r = c .before .before .before .before .before .lowest-bit .result in
-    let (lr, on) = c .before .before .before .before .before .lowest-bit .ensures in
+    let low = c .before .before .before .before .before .lowest-bit .ensures in
     rw (c .without-bit .ensures)
-    (fewer-left _ i r (l .rest) (l .seen .words) _ _ (c .before .before .before .before .before .before .before .before .before .pre .1) lr on (l .inv .0 .each i .fits) (c .before .before .before .before .row .ensures) (c .before .union .ensures) (l .inv .1 .inside))
+    (fewer-left _ i r (l .rest) (l .seen .words) _ _ (c .before .before .before .before .before .before .before .before .before .pre .1) (low .place) (low .is-set) (l .inv .0 .each i .fits) (c .before .before .before .before .row .ensures) (c .before .union .ensures) (l .inv .1 .inside))
 
 loop-again : tie.Need-loop-again Inv-loop μ-loop
 loop-again c =
     let i = c .before .before .before .before .before .before .before .before .before .args .i in
     let l = c .before .before .before .before .before .before .before .loop in
-    let (lr, on) = c .before .before .before .before .before .lowest-bit .ensures in (
+    let low = c .before .before .before .before .before .lowest-bit .ensures in (
       search needs,
       rw (c .without-bit .ensures)
-          (lifted-more _ i (c .before .before .before .before .before .lowest-bit .result) (l .rest) (l .seen .words) _ _ (c .before .before .before .before .before .before .before .before .before .pre .1) lr on (l .inv .0 .each i .fits) (c .before .before .before .before .row .ensures) (c .before .union .ensures) (l .inv .1)),
+          (lifted-more _ i (c .before .before .before .before .before .lowest-bit .result) (l .rest) (l .seen .words) _ _ (c .before .before .before .before .before .before .before .before .before .pre .1) (low .place) (low .is-set) (l .inv .0 .each i .fits) (c .before .before .before .before .row .ensures) (c .before .union .ensures) (l .inv .1)),
     )
 
 pub lift-spec : {M : Type 1} → statement M
