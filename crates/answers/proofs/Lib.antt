@@ -1,4 +1,4 @@
-pub mod Tries
-pub mod Told
 pub mod Found
-pub mod Dispatch
+pub mod Used
+pub mod Tries
+pub mod Refusals

@@ -1,61 +1,115 @@
 // What a call is answered on a lawful state: its refusal (document 01, 'When a call is turned down') and its verdict.
-// A call's own function tries the guards of its row in the order of their numbers.
+ghost use Rattle.mtas.specs.Layout.{view};
 ghost use Rattle.mtas.specs.LawTest.{LawfulWords};
 ghost use Rattle.record.specs.Decoded.{call-of};
-ghost use Rattle.answers.specs.Refusal.{Refusal, Verdict};
+ghost use Rattle.rule.specs.Table.{guard-of, guards-of, whose-of};
+ghost use Rattle.answers.specs.Refusal.{Applies, Causes, Tried, Known, InFront, Refusal, Verdict};
 
-mod facts;
-mod guards;
-mod issuers;
-mod links;
-mod own;
-mod sessions;
 mod walks;
 
+use facts::Fact;
 use record::Call;
+use rule::Effect;
+use rule::Guard;
+use rule::Whose;
+
+fn applies(state: &[u16], guard: Guard) -> bool
+    requires { ⌜ LawfulWords (now state) ⌝ }
+    ensures { λ b. ⌜ Applies (view (now (state .entry))) (guard-of guard) b ⌝ }
+{
+    match guard {
+        Guard::Passed => false,
+        Guard::Absent(_, f) => !facts::stands(state, f),
+        Guard::Present(_, f) => facts::stands(state, f),
+        Guard::Wrong(_, b) => b,
+        Guard::Reached(_, c, q, i, r) => walks::reaches(state, c, q, i, r),
+    }
+}
+
+fn cause(guard: Guard) -> u16
+    ensures { λ n. ⌜ Causes (guard-of guard) n ⌝ }
+{
+    match guard {
+        Guard::Passed => 0,
+        Guard::Absent(n, _) => n,
+        Guard::Present(n, _) => n,
+        Guard::Wrong(n, _) => n,
+        Guard::Reached(n, _, _, _, _) => n,
+    }
+}
+
+// The cause of the first guard that applies, 0 where none does.
+fn first_cause(state: &[u16], guards: [Guard; 6]) -> u16
+    requires { ⌜ LawfulWords (now state) ⌝ }
+    ensures { λ n. ⌜ Tried (view (now (state .entry))) (guards-of guards) n ⌝ }
+{
+    for k in 0..6 {
+        let guard = guards[k];
+        if applies(state, guard) {
+            return cause(guard);
+        }
+    }
+    0
+}
+
+// Whether the calling issuer is enrolled; the operator is no issuer.
+fn is_known(state: &[u16], whose: Whose, caller: u8) -> bool
+    requires { ⌜ LawfulWords (now state) ⌝ }
+    ensures { λ b. ⌜ Known (view (now (state .entry))) (whose-of whose) caller b ⌝ }
+{
+    match whose {
+        Whose::Operator => true,
+        Whose::Issuer => facts::stands(state, Fact::Enrolled(caller)),
+    }
+}
+
+// Refusals 4 to 6, with which every row begins: whose call it is, enrolment, arguments above 15.
+fn front(state: &[u16], caller: u8, call: Call) -> u16
+    requires { ⌜ LawfulWords (now state) ⌝ }
+    ensures { λ n. ⌜ InFront (view (now (state .entry))) caller (call-of call) n ⌝ }
+{
+    let whose = rule::its_caller(call);
+    if !rule::may_call(whose, caller) {
+        return 4;
+    }
+    if !is_known(state, whose, caller) {
+        return 5;
+    }
+    let given = record::arguments(call);
+    if facts::above_15(given.x, given.y, given.z as u16, 0) {
+        return 6;
+    }
+    0
+}
 
 // The refusal of any call, 0 where it is accepted.
 pub fn refusal(state: &[u16], caller: u8, call: Call) -> u16
     requires { ⌜ LawfulWords (now state) ⌝ }
     ensures { λ n. ⌜ Refusal (now (state .entry)) caller (call-of call) n ⌝ }
 {
-    match call {
-        Call::AddIssuer(i) => issuers::add_issuer(state, caller, i),
-        Call::RemoveIssuer(i) => issuers::remove_issuer(state, caller, i),
-        Call::AssignTrust(j) => issuers::assign_trust(state, caller, j),
-        Call::RevokeTrust(j) => issuers::revoke_trust(state, caller, j),
-        Call::AddUser(u) => own::add_user(state, caller, u),
-        Call::RemoveUser(u) => own::remove_user(state, caller, u),
-        Call::AddRole(r) => own::add_role(state, caller, r),
-        Call::RemoveRole(r) => own::remove_role(state, caller, r),
-        Call::AddPerm(p) => own::add_perm(state, caller, p),
-        Call::RemovePerm(p) => own::remove_perm(state, caller, p),
-        Call::AssignUser(u, r) => own::assign_user(state, caller, u, r),
-        Call::RevokeUser(u, r) => own::revoke_user(state, caller, u, r),
-        Call::AssignPerm(p, i, r) => links::assign_perm(state, caller, p, i, r),
-        Call::RevokePerm(p, i, r) => links::revoke_perm(state, caller, p, i, r),
-        Call::AssignRH(q, i, r) => links::assign_rh(state, caller, q, i, r),
-        Call::RevokeRH(q, i, r) => links::revoke_rh(state, caller, q, i, r),
-        Call::CreateSession(s, u) => sessions::create_session(state, caller, s, u),
-        Call::DeleteSession(s) => sessions::delete_session(state, caller, s),
-        Call::AddActiveRole(s, r) => sessions::add_active_role(state, caller, s, r),
-        Call::DropActiveRole(s, r) => sessions::drop_active_role(state, caller, s, r),
-        Call::CheckAccess(p, i, s) => links::check_access(state, caller, p, i, s),
+    let first = front(state, caller, call);
+    if first != 0 {
+        return first;
     }
+    first_cause(state, rule::guards(state, caller, call))
 }
 
 // The verdict of an accepted call: 1 only for kind 21.
 pub fn verdict(state: &[u16], caller: u8, call: Call) -> u16
     requires { ⌜ LawfulWords (now state) ⌝ }
-    requires { ⌜ Refusal (now state) caller (call-of call) 0 ⌝ }
     ensures { λ v. ⌜ Verdict (now (state .entry)) caller (call-of call) v ⌝ }
 {
-    let Call::CheckAccess(p, i, s) = call else {
-        return 0;
-    };
-    if walks::may_use(state, caller, p, i, s) {
-        1
-    } else {
-        0
+    let effect = rule::effect_on(state, caller, call);
+    match effect {
+        Effect::Enrols(_) => 0,
+        Effect::Puts(_) => 0,
+        Effect::Cuts(_) => 0,
+        Effect::Decides(p, i, s) => {
+            if walks::may_use(state, caller, p, i, s) {
+                1
+            } else {
+                0
+            }
+        }
     }
 }

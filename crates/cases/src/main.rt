@@ -99,7 +99,7 @@ fn show_holders(state: &[u16]) {
 }
 
 fn main() {
-    let mut words = [0u16; 9025];
+    let mut words = [0u16; layout::STATE_LENGTH];
     let state: &mut [u16] = &mut words;
     a_to_f(state);
     g_to_l(state);

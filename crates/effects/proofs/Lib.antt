@@ -1,9 +1,8 @@
-pub mod Places
-pub mod Clearing
-pub mod Masks
-pub mod Accepted
-pub mod Putting
-pub mod Setting
-pub mod Pair
-pub mod Cutting
+pub mod Rows
+pub mod Masking
 pub mod Sweeping
+pub mod Relied
+pub mod Swept
+pub mod Cutting
+pub mod Putting
+pub mod Acts

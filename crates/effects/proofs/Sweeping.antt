@@ -1,96 +1,105 @@
--- What one session loses, and what the sessions passed so far have lost.
-use mathlib.Core.Path.{_≡_, refl, ap, sym, _∙_}
-use mathlib.Core.Logic.{_⊎_, inl, inr}
+-- Sessions swept one after another.
+use mathlib.Core.Path.{_≡_, refl, ap, ap₂, sym, _∙_}
+use mathlib.Core.Bool.{Bool, true, false, cond, not}
 use mathlib.Core.List.{List}
-use mathlib.Core.Bool.{Bool, true, false}
-use Prim.Native.Nat.{ℕ, _+_, _-_, _^_, _<_, _≤_}
+use Prim.Native.Nat.{ℕ, _+_, _<_, _≤_}
+use native.Mathlib.Decide.{ℕ-discrete}
 use native.Mathlib.Omega.{arith}
-use lib.Dec.{eqb}
-use lib.ListN.{length, getD, set}
-use borrow.Author.Tests.{eqb-true}
-use Rattle.bits.specs.Bit.{bit}
-use Rattle.bits.specs.Stride.{in-run}
-use Rattle.bits.specs.Update.{Masked}
-use Rattle.bits.proofs.Booleans.{clash, and-left, below-or-not}
-use Rattle.mtas.specs.Fact.{Fact, active}
-use Rattle.mtas.specs.Cascades.{Closed}
-use Rattle.mtas.specs.Layout.{session-user, active-roles, state-length, address, read, view}
-use Rattle.mtas.proofs.Words.{view-says, view-numbered, view-opened}
-use Rattle.effects.specs.declared.sessions.Whose.{Whose}
-use Rattle.effects.specs.declared.sessions.Action.{Action}
-use Rattle.effects.specs.declared.sessions.Action.the-variants.{Close, Drop}
-use Rattle.effects.specs.Swept.{has, Lost, closed, emptied, dropped, Swept}
-use Rattle.effects.specs.Wiped.{Wiped}
-use Rattle.effects.proofs.Clearing.{within, within-either, wiped-as, wiped-none, wiped-then}
-use Rattle.effects.proofs.Masks.{Told, bit-within, bit-told, roles-told}
-use Rattle.effects.proofs.Pair.{closes}
+use lib.Bits.{bitAnd}
+use lib.Dec.{eqb, leb, ltb}
+use lib.ListN.{length, getD, set, length-set}
+use lib.Seq.{getD-set-same, getD-set-other}
+use borrow.Author.Tests.{le-leb, lt-ltb, leb-true, ltb-true, not-true, not-false}
+use Rattle.bits.proofs.Booleans.{untrue, same-test, and-both, and-intro}
+use Rattle.effects.specs.declared.sweep.Sweep.{Sweep}
+use Rattle.effects.specs.Sweeps.{meant, user-after, roles-after, SweptPair, swept-words, reached, session-at, Swept}
+use Rattle.mtas.specs.Layout.{state-length}
 
--- a session loses only what stands for its user
-module _ (ws : List ℕ) (i s u : ℕ) where
-  active-user : (r : ℕ) → (view ws) .stands (active i s u r) ≡ true → read ws (session-user i s) ≡ u
-  active-user r h =
-      let e = sym (view-says ws (active i s u r) (view-numbered ws (active i s u r) h)) ∙ h in
-      eqb-true (read ws (session-user i s)) u (and-left (eqb (read ws (session-user i s)) u) (bit (read ws (active-roles i s)) r) e)
+-- ---- one session
+module _ (sw : Sweep) (u : ℕ) where
+  pub of-anyone : sw .anyone ≡ true → true ≡ meant sw u
+  of-anyone h = rw h
 
-  its-user : {action : Action} {f : Fact} → (view ws) .stands f ≡ true → Lost i s u action f → read ws (session-user i s) ≡ u
-  its-user h closed = view-opened ws i s u h
-  its-user h (emptied {r}) = active-user r h
-  its-user h (dropped {r}) = active-user r h
+  pub of-user : sw .anyone ≡ false → eqb u (sw .user) ≡ meant sw u
+  of-user h = rw h
 
-module _ (ws : List ℕ) (i s : ℕ) (whose : Whose) {k : ℕ} (li : i < 16) (ls : s < 16) (p : k ≡ address (session-user i s)) {b : Bool} (test : b ≡ has whose (getD ws k 0)) where
-  theirs-if : b ≡ has whose (read ws (session-user i s))
-  theirs-if = rw p at test
+-- b: whether the session is one of the sweep's
+module _ (sw : Sweep) (u : ℕ) {a : ℕ} {b : Bool} (m : b ≡ meant sw u) where
+  pub unswept : not b ≡ true → SweptPair sw u a u a
+  unswept h = let n : meant sw u ≡ false = sym m ∙ not-true b h in record { user = rw n; roles = rw n }
 
-  -- a session of another user
-  pub passed-by : {action : Action} → b ≡ false → Wiped (Swept i s 1 whose action) ws ws
-  passed-by {action} other = wiped-none apart
-    where
-      apart : (f : Fact) → (view ws) .stands f ≡ true → Swept i s 1 whose action f → ⊥
-      apart f h x =
-          let e : x .session ≡ s = omega arith in
-          clash (x .theirs) (ap (has whose) (sym (rw e at (its-user ws i (x .session) (x .user) h (x .lost)))) ∙ sym theirs-if ∙ other)
+  pub closed : not b ≡ false → sw .close ≡ true → SweptPair sw u a 65535 0
+  closed h c = let n : meant sw u ≡ true = sym m ∙ not-false b h in record { user = rw (n, c); roles = rw (n, c) }
 
-  module _ (yes-theirs : b ≡ true) where
-    swept : {action : Action} {u : ℕ} {f : Fact} → read ws (session-user i s) ≡ u → Lost i s u action f → Swept i s 1 whose action f
-    swept {u = u} e x = record { session = s; user = u; not-before = omega arith; not-after = omega arith; theirs = ap (has whose) (sym e) ∙ sym theirs-if ∙ yes-theirs; lost = x }
+  pub dropped : not b ≡ false → sw .close ≡ false → SweptPair sw u a u (bitAnd a (sw .keep))
+  dropped h c = let n : meant sw u ≡ true = sym m ∙ not-false b h in record { user = rw (n, c); roles = rw (n, c) }
 
-    pub swept-closed : {vs : List ℕ} → length ws ≡ state-length → vs ≡ set (set ws k 65535) (k + 1) 0 → Wiped (Swept i s 1 whose Close) ws vs
-    swept-closed {vs} long q =
-        let x : Wiped (Closed i s) ws vs = rw (q, p) (closes ws i s 65535 long li ls refl) in
-        wiped-as x (record { only = to }) (within (λ f h z. let e : z .session ≡ s = omega arith in rw e at (from (z .lost))))
-      where
-        to : (f : Fact) → (view ws) .stands f ≡ true → Closed i s f → Swept i s 1 whose Close f
-        to f h (Closed.the-session {u}) = swept (view-opened ws i s u h) closed
-        to f h (Closed.its-roles {u} {r}) = swept (active-user ws i s u r h) emptied
+-- ---- one after another
+module _ (sw : Sweep) (t m : ℕ) where
+  pub reached-in : sw .first ≤ m → m < sw .first + t → reached sw t m ≡ true
+  reached-in a b = and-intro (leb (sw .first) m) (ltb m (sw .first + t)) (le-leb (sw .first) m a) (lt-ltb m (sw .first + t) b)
 
-        from : {t u : ℕ} {f : Fact} → Lost i t u Close f → Closed i t f
-        from closed = Closed.the-session
-        from emptied = Closed.its-roles
+  pub reached-out : reached sw t m ≡ true → (sw .first ≤ m) × (m < sw .first + t)
+  reached-out e = let p = and-both (leb (sw .first) m) (ltb m (sw .first + t)) e in (leb-true (sw .first) m (p .0), ltb-true m (sw .first + t) (p .1))
 
-    pub swept-dropped : {r : ℕ} {vs : List ℕ} → r < 16 → Masked (in-run (k + 1) 1) (65535 - 2 ^ r) ws vs → Wiped (Swept i s 1 whose (Drop r)) ws vs
-    swept-dropped {r} l m =
-        wiped-as (roles-told li ls (omega arith) m) (bit-within l (λ t h. swept refl dropped))
-        (within (λ f h z. from (omega arith) (z .lost)))
-      where
-        from : {t u : ℕ} {f : Fact} → t ≡ s → Lost i t u (Drop r) f → Told (λ t. active-roles i s) 1 (65535 - 2 ^ r) f
-        from e dropped = bit-told 0 (omega arith) (ap (active-roles i) e) l refl
+pub none-swept : {sw : Sweep} {ws : List ℕ} → Swept sw 0 ws ws
+none-swept {sw} {ws} = record {
+  len = refl;
+  users = λ m. rw (never m);
+  roles = λ m. rw (never m);
+  apart = λ k p q. refl;
+}
+  where
+    never : (m : ℕ) → reached sw 0 m ≡ false
+    never m = untrue _ (λ e. let a = reached-out sw 0 m e in omega arith)
 
--- ---- the sessions one after another
-module _ {i : ℕ} {whose : Whose} {action : Action} where
-  part : {from n from′ n′ : ℕ} {f : Fact} (x : Swept i from n whose action f) → from′ ≤ x .session → x .session < from′ + n′ → Swept i from′ n′ whose action f
-  part x l m = record { session = x .session; user = x .user; not-before = l; not-after = m; theirs = x .theirs; lost = x .lost }
+pub one-swept : {sw : Sweep} (t : ℕ) {ws vs us : List ℕ} → sw .first + t < 256 → length vs ≡ state-length → Swept sw t ws vs → us ≡ swept-words sw (sw .first + t) vs → Swept sw (t + 1) ws us
+one-swept {sw} t {ws} {vs} low long x is = rw is (record {
+  len = simp length-set (x .len);
+  users = λ m. user m (ℕ-discrete m m₀);
+  roles = λ m. role m (ℕ-discrete m m₀);
+  apart = λ k p q. elsewhere k (p m₀ low) (q m₀ low) ∙ x .apart k p q;
+})
+  where
+    m₀ : ℕ
+    m₀ = sw .first + t
 
-  pub swept-by : (s u : ℕ) {n : ℕ} {f : Fact} → s < n → has whose u ≡ true → Lost i s u action f → Swept i 0 n whose action f
-  swept-by s u l e x = record { session = s; user = u; not-before = omega arith; not-after = omega arith; theirs = e; lost = x }
+    at : ℕ
+    at = session-at m₀
 
-  pub swept-none : {ws : List ℕ} → Wiped (Swept i 0 0 whose action) ws ws
-  swept-none = wiped-none (λ f h x. omega arith)
+    this : reached sw (t + 1) m₀ ≡ true
+    this = reached-in sw (t + 1) m₀ (omega arith) (omega arith)
 
-  pub swept-more : (t : ℕ) {ws vs us : List ℕ} → Wiped (Swept i 0 t whose action) ws vs → Wiped (Swept i t 1 whose action) vs us → Wiped (Swept i 0 (t + 1) whose action) ws us
-  swept-more t x y =
-      wiped-as (wiped-then x y) (within-either (within (λ f h z. part z (omega arith) (omega arith))) (within (λ f h z. part z (omega arith) (omega arith))))
-      (within (λ f h z. go z (below-or-not (z .session) t)))
-    where
-      go : {f : Fact} (z : Swept i 0 (t + 1) whose action f) → (z .session < t) ⊎ (t ≤ z .session) → (Swept i 0 t whose action f) ⊎ (Swept i t 1 whose action f)
-      go z (inl l) = inl (part z (omega arith) (omega arith))
-      go z (inr l) = inr (part z (omega arith) (omega arith))
+    not-yet : reached sw t m₀ ≡ false
+    not-yet = untrue _ (λ q. let a = reached-out sw t m₀ q in omega arith)
+
+    other : (m : ℕ) → (m ≡ m₀ → ⊥) → reached sw t m ≡ reached sw (t + 1) m
+    other m n =
+        same-test _ _ (λ q. let a = reached-out sw t m q in reached-in sw (t + 1) m (a .0) (omega arith))
+        (λ q. let a = reached-out sw (t + 1) m q in reached-in sw t m (a .0) (omega arith))
+
+    elsewhere : (k : ℕ) → (k ≡ at → ⊥) → (k ≡ at + 1 → ⊥) → getD (swept-words sw m₀ vs) k 0 ≡ getD vs k 0
+    elsewhere k m n = getD-set-other (set vs at _) (at + 1) k _ 0 n ∙ getD-set-other vs at k _ 0 m
+
+    was-user : getD vs at 0 ≡ getD ws at 0
+    was-user = x .users m₀ ∙ rw not-yet
+
+    was-roles : getD vs (at + 1) 0 ≡ getD ws (at + 1) 0
+    was-roles = x .roles m₀ ∙ rw not-yet
+
+    at-user : getD (swept-words sw m₀ vs) at 0 ≡ user-after sw (getD ws at 0)
+    at-user = getD-set-other (set vs at _) (at + 1) at _ 0 (λ e. omega arith) ∙ getD-set-same vs at _ 0 (omega arith) ∙ ap (user-after sw) was-user
+
+    at-roles : getD (swept-words sw m₀ vs) (at + 1) 0 ≡ roles-after sw (getD ws at 0) (getD ws (at + 1) 0)
+    at-roles = getD-set-same (set vs at _) (at + 1) _ 0 (simp length-set (omega arith)) ∙ ap₂ (roles-after sw) was-user was-roles
+
+    user : (m : ℕ) → Dec (m ≡ m₀) → getD (swept-words sw m₀ vs) (session-at m) 0 ≡ cond (reached sw (t + 1) m) (user-after sw (getD ws (session-at m) 0)) (getD ws (session-at m) 0)
+    user m (yes q) = rw (q, this) at-user
+    user m (no n) = elsewhere (session-at m) (λ h. n (omega arith)) (λ h. omega arith) ∙ x .users m ∙ rw (other m n)
+
+    role : (m : ℕ) → Dec (m ≡ m₀) → getD (swept-words sw m₀ vs) (session-at m + 1) 0 ≡ cond (reached sw (t + 1) m) (roles-after sw (getD ws (session-at m) 0) (getD ws (session-at m + 1) 0)) (getD ws (session-at m + 1) 0)
+    role m (yes q) = rw (q, this) at-roles
+    role m (no n) = elsewhere (session-at m + 1) (λ h. omega arith) (λ h. n (omega arith)) ∙ x .roles m ∙ rw (other m n)
+
+pub all-swept : {sw : Sweep} {t : ℕ} {ws vs : List ℕ} → Swept sw t ws vs → t ≡ sw .count → Swept sw (sw .count) ws vs
+all-swept x e = rw e at x

@@ -1,4 +1,5 @@
 pub mod Effect
-pub mod Wiped
-pub mod Swept
-pub mod Rights
+pub mod Strips
+pub mod Sweeps
+pub mod Cut
+pub mod Put

@@ -1,38 +1,67 @@
-// What an accepted call does to the lent words.
-ghost use Rattle.effects.specs.Effect.{Accepted, Left};
+// What an accepted call does to the lent words: facts are put, or one is cut with all that needs it.
+ghost use mathlib.Core.Path.{_≡_};
+ghost use Prim.Native.Nat.{_<_};
+ghost use lib.ListN.{length, getD, set};
+ghost use Rattle.bits.specs.Bit.{with-bit};
+ghost use Rattle.mtas.specs.Layout.{state-length};
 ghost use Rattle.record.specs.Decoded.{call-of};
+ghost use Rattle.facts.specs.Table.{fact-of};
+ghost use Rattle.effects.specs.Effect.{Accepted, Left};
+ghost use Rattle.effects.specs.Put.{Put};
+ghost use Rattle.effects.specs.Cut.{MayCut, Cut};
+use facts::Fact;
+use facts::Place;
 use record::Call;
+use rule::Effect;
 
-mod cuts;
-mod puts;
-mod sessions;
-mod words;
+mod strips;
+mod sweep;
+
+fn set_bit(state: &mut [u16], at: usize, n: u8)
+    requires { ⌜ (at < length (now state)) × (n < 16) ⌝ }
+    ensures { λ _. ⌜ now (state .exit) ≡ set (now (state .entry)) at (with-bit (getD (now (state .entry)) at 0) n) ⌝ }
+{
+    state[at] = bits::with_bit(state[at], n);
+}
+
+// The fact is written at its place.
+fn put(state: &mut [u16], fact: Fact)
+    requires { ⌜ length (now state) ≡ state-length ⌝ }
+    ensures { λ _. ⌜ Put (fact-of fact) (now (state .entry)) (now (state .exit)) ⌝ }
+{
+    let place = facts::place_of(fact);
+    match place {
+        Place::Nowhere => {}
+        Place::Bit(at, n) => set_bit(state, at, n),
+        Place::Number(at, u) => {
+            state[at] = u;
+        }
+        Place::While(_, _, at, n) => set_bit(state, at, n),
+    }
+}
+
+// The fact goes, with all that needs it.
+fn cut(state: &mut [u16], fact: Fact)
+    requires { ⌜ MayCut (fact-of fact) (now state) ⌝ }
+    ensures { λ _. ⌜ Cut (fact-of fact) (now (state .entry)) (now (state .exit)) ⌝ }
+{
+    strips::clear(state, fact);
+    sweep::sweep_all(state, sweep::sweep_of(fact));
+}
 
 pub fn change(state: &mut [u16], caller: u8, call: Call)
     requires { ⌜ Accepted (now state) caller (call-of call) ⌝ }
     ensures { λ _. ⌜ Left (now (state .entry)) caller (call-of call) (now (state .exit)) ⌝ }
 {
-    match call {
-        Call::AddIssuer(i) => puts::add_issuer(state, caller, i),
-        Call::RemoveIssuer(i) => cuts::remove_issuer(state, caller, i),
-        Call::AssignTrust(j) => puts::assign_trust(state, caller, j),
-        Call::RevokeTrust(j) => cuts::revoke_trust(state, caller, j),
-        Call::AddUser(u) => puts::add_user(state, caller, u),
-        Call::RemoveUser(u) => cuts::remove_user(state, caller, u),
-        Call::AddRole(r) => puts::add_role(state, caller, r),
-        Call::RemoveRole(r) => cuts::remove_role(state, caller, r),
-        Call::AddPerm(p) => puts::add_perm(state, caller, p),
-        Call::RemovePerm(p) => cuts::remove_perm(state, caller, p),
-        Call::AssignUser(u, r) => puts::assign_user(state, caller, u, r),
-        Call::RevokeUser(u, r) => cuts::revoke_user(state, caller, u, r),
-        Call::AssignPerm(p, i, r) => puts::assign_perm(state, caller, p, i, r),
-        Call::RevokePerm(p, i, r) => cuts::revoke_perm(state, caller, p, i, r),
-        Call::AssignRH(q, i, r) => puts::assign_rh(state, caller, q, i, r),
-        Call::RevokeRH(q, i, r) => cuts::revoke_rh(state, caller, q, i, r),
-        Call::CreateSession(s, u) => puts::create_session(state, caller, s, u),
-        Call::DeleteSession(s) => cuts::delete_session(state, caller, s),
-        Call::AddActiveRole(s, r) => puts::add_active_role(state, caller, s, r),
-        Call::DropActiveRole(s, r) => cuts::drop_active_role(state, caller, s, r),
-        Call::CheckAccess(_, _, _) => {}
+    let effect = rule::effect_on(state, caller, call);
+    match effect {
+        // The issuer's trust in itself too.
+        Effect::Enrols(i) => {
+            put(state, Fact::Trusts(i, i));
+            put(state, Fact::Enrolled(i));
+        }
+        Effect::Puts(fact) => put(state, fact),
+        Effect::Cuts(fact) => cut(state, fact),
+        Effect::Decides(_, _, _) => {}
     }
 }

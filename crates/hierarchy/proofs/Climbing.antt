@@ -20,24 +20,24 @@ use Rattle.bits.proofs.Booleans.{clash, and-left, and-right, and-intro, and-not
 use Rattle.bits.proofs.Roles.{in-empty}
 use Rattle.mtas.specs.Hierarchy.{Role, _#_, Graph, Reaches, itself, down}
 use Rattle.mtas.proofs.Hierarchy.{Numbered, then}
-use Rattle.hierarchy.specs.Links.{linked, among, Within, Reaching, ReachesInto}
+use Rattle.hierarchy.specs.Links.{linked, among, Subset, Reaching, ReachesInto}
 use Rattle.hierarchy.specs.Climbing.{BitsIn, AllReach, Lifted, Climbing, Climbed}
 use Rattle.hierarchy.proofs.Links.{linked-bit, linked-numbered}
 use Rattle.hierarchy.proofs.Rows.{Wide}
-use Rattle.hierarchy.proofs.Freed.{within-itself, within-then}
+use Rattle.hierarchy.proofs.Freed.{subset-itself, subset-then}
 use Rattle.hierarchy.proofs.Sizes.{size, fewer-outside}
 
 -- ---- lifting the roles of one issuer, one by one
 -- all but the roles of the rest
 pub record LiftedBut (below : Graph) (i word rest : ℕ) (before after : List ℕ) : Type 0 where
   pub inside : BitsIn rest after i
-  pub kept : Within before after
+  pub kept : Subset before after
   pub seniors : (r : ℕ) → r < 16 → in-set after i r ≡ true → (in-set before i r ≡ true → bit word r ≡ true) → bit rest r ≡ false
       → (a : Role) → below a (i # r) ≡ true → among after a ≡ true
   pub only : (from : List ℕ) → AllReach below from before → AllReach below from after
 
 pub lifted-none : {e : Graph} {i word : ℕ} {s : List ℕ} → BitsIn word s i → LiftedBut e i word word s s
-lifted-none h = record { inside = h; kept = within-itself; seniors = λ r l x w n. absurd (clash (w x) n); only = λ from f. f }
+lifted-none h = record { inside = h; kept = subset-itself; seniors = λ r l x w n. absurd (clash (w x) n); only = λ from f. f }
 
 pub lifted-all : {e : Graph} {i word rest : ℕ} {s t : List ℕ} → rest ≡ 0 → LiftedBut e i word rest s t → Lifted e i word s t
 lifted-all z u = record { kept = u .kept; seniors = λ r l x w. u .seniors r l x w (rw z (bit-0 r)); only = u .only }
@@ -56,7 +56,7 @@ module _ (links : List ℕ) (i r rest : ℕ) (s row t : List ℕ) (li : i < 16) 
   in-row : (a : Role) → a .issuer < 16 → a .number < 16 → among row a ≡ linked links a (i # r)
   in-row a l m = ap (λ w. bit w (a .number)) (is-row .each (a .issuer) l) ∙ sym (linked-bit links a (i # r) (li, (lr, (l, (m, tt)))))
 
-  from-old : Within s t
+  from-old : Subset s t
   from-old = record { each = λ a l m h. both .each (a .issuer) (a .number) ∙ or-left (among s a) (among row a) h }
 
   from-row : (a : Role) → among row a ≡ true → among t a ≡ true
@@ -82,7 +82,7 @@ module _ (links : List ℕ) (i r rest : ℕ) (s row t : List ℕ) (li : i < 16) 
   pub lifted-more : {word : ℕ} {s₀ : List ℕ} → LiftedBut (linked links) i word rest s₀ s → LiftedBut (linked links) i word rest′ s₀ t
   lifted-more {word} {s₀} u = record {
     inside = λ q l h. still q l (or-cases (bit rest q && not (eqb r q)) (in-set row i q && not (in-set s i q)) (sym (rest-bit q l) ∙ h));
-    kept = within-then (u .kept) from-old;
+    kept = subset-then (u .kept) from-old;
     seniors = λ q l h w n a k. let (la, ma, _, _) = linked-numbered links a (i # q) k in taken q l h w n a la ma k (in-set s i q) refl;
     only = λ from f a l m h. reach from f a l m (or-cases (among s a) (among row a) (sym (both .each (a .issuer) (a .number)) ∙ h));
   }
@@ -132,13 +132,13 @@ module _ (links : List ℕ) (i r rest : ℕ) (s row t : List ℕ) (li : i < 16) 
 -- ---- one round, issuer by issuer
 pub record RoundTo (below : Graph) (n : ℕ) (seen done seen′ done′ : List ℕ) : Type 0 where
   pub wide : Wide done′
-  pub kept-seen : Within seen seen′
-  pub kept-done : Within done done′
+  pub kept-seen : Subset seen seen′
+  pub kept-done : Subset done done′
   pub so-far : (a : Role) → a .issuer < n → a .issuer < 16 → a .number < 16 → among seen a ≡ true → among done′ a ≡ true
   pub goes-on : (from : List ℕ) → Climbing below from seen done → Climbing below from seen′ done′
 
 pub round-none : {e : Graph} {seen done : List ℕ} → Wide done → RoundTo e 0 seen done seen done
-round-none w = record { wide = w; kept-seen = within-itself; kept-done = within-itself; so-far = λ a l. absurd (omega arith); goes-on = λ from c. c }
+round-none w = record { wide = w; kept-seen = subset-itself; kept-done = subset-itself; so-far = λ a l. absurd (omega arith); goes-on = λ from c. c }
 
 pub round-all : {e : Graph} {seen done seen′ done′ : List ℕ} → RoundTo e 16 seen done seen′ done′ → Climbed e seen done seen′ done′
 round-all u = record { kept = u .kept-done; all-done = record { each = λ a l. u .so-far a l l }; goes-on = u .goes-on }
@@ -186,7 +186,7 @@ module _ {e : Graph} (num : Numbered e) (n : ℕ) (ln : n < 16) (seen′ done′
             rw (p, getD-set-same done′ n (bitOr (getD done′ n 0) (getD seen″ n 0)) 0 long) (or-lt 16 (getD done′ n 0) (getD seen″ n 0) (u .wide .each n .fits) wide″)
         go k (no d) = rw (getD-set-other done′ n k (bitOr (getD done′ n 0) (getD seen″ n 0)) 0 d) (u .wide .each k .fits)
 
-    keeps : Within done′ done″
+    keeps : Subset done′ done″
     keeps = record { each = λ a l m h. go a h (ℕ-discrete (a .issuer) n) }
       where
         go : (a : Role) → among done′ a ≡ true → Dec (a .issuer ≡ n) → among done″ a ≡ true
@@ -207,13 +207,13 @@ module _ {e : Graph} (num : Numbered e) (n : ℕ) (ln : n < 16) (seen′ done′
     pub round-more : RoundTo e (n + 1) seen done seen″ done″
     round-more = record {
       wide = still-wide;
-      kept-seen = within-then (u .kept-seen) (lift .kept);
-      kept-done = within-then (u .kept-done) keeps;
+      kept-seen = subset-then (u .kept-seen) (lift .kept);
+      kept-done = subset-then (u .kept-done) keeps;
       so-far = λ a l li m h. made a l li m h (ℕ-discrete (a .issuer) n);
       goes-on = λ from c.
           let k = u .goes-on from c in
           record {
-            begun = within-then (k .begun) (lift .kept);
+            begun = subset-then (k .begun) (lift .kept);
             sound = lift .only from (k .sound);
             closed = λ a b l m h t. close from k a b l m t (cases b h);
           };
@@ -236,17 +236,17 @@ module _ {e : Graph} (num : Numbered e) (n : ℕ) (ln : n < 16) (seen′ done′
 -- ---- the whole walk
 pub climb-begins : {e : Graph} {s : List ℕ} → Climbing e s s (replicate 16 0)
 climb-begins = record {
-  begun = within-itself;
+  begun = subset-itself;
   sound = λ a l m h. (a, l, m, h, itself);
   closed = λ a b l m h. absurd (clash h (in-empty (b .issuer) (b .number)));
 }
 
-pub climb-ends : {e : Graph} {from seen done : List ℕ} → Numbered e → Climbing e from seen done → Within seen done → Reaching e from seen
+pub climb-ends : {e : Graph} {from seen done : List ℕ} → Numbered e → Climbing e from seen done → Subset seen done → Reaching e from seen
 climb-ends {e} {from} {seen} num c w = record { sound = c .sound; complete = λ a b l m h p. whole p (c .begun .each b l m h) }
   where
     whole : {a b : Role} → Reaches e a b → among seen b ≡ true → among seen a ≡ true
     whole itself h = h
     whole (down {b} {c = d} p k) h = let (_, _, l, m) = num b d k in whole p (c .closed b d l m (w .each d l m h) k)
 
-pub climb-less : {e : Graph} {seen done seen′ done′ : List ℕ} → Climbed e seen done seen′ done′ → (Within seen done → ⊥) → 256 - size done′ < 256 - size done
-climb-less {done = done} {done′ = done′} c n = fewer-outside done done′ (c .kept) (λ w. n (within-then (c .all-done) w))
+pub climb-less : {e : Graph} {seen done seen′ done′ : List ℕ} → Climbed e seen done seen′ done′ → (Subset seen done → ⊥) → 256 - size done′ < 256 - size done
+climb-less {done = done} {done′ = done′} c n = fewer-outside done done′ (c .kept) (λ w. n (subset-then (c .all-done) w))

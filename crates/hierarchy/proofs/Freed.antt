@@ -16,15 +16,15 @@ use Rattle.bits.proofs.Bit.{bit-0, bit-with}
 use Rattle.bits.proofs.Booleans.{clash, and-left, and-right, and-intro, or-cases, or-left, or-right}
 use Rattle.mtas.specs.Hierarchy.{Role, _#_, Graph, itself, down, nth-role}
 use Rattle.mtas.proofs.Hierarchy.{Numbered, then}
-use Rattle.hierarchy.specs.Links.{among, Within}
-use Rattle.hierarchy.specs.Freed.{Free, AllFree, Due, TopsOf, Freed, Visited, Swept, Filled}
+use Rattle.hierarchy.specs.Links.{among, Subset}
+use Rattle.hierarchy.specs.Freed.{Free, AllFree, Due, TopsOf, Freed, Visited, VisitedAll, Filled}
 use Rattle.hierarchy.proofs.Links.{role-at}
 
-pub within-itself : {s : List ℕ} → Within s s
-within-itself = record { each = λ a l m h. h }
+pub subset-itself : {s : List ℕ} → Subset s s
+subset-itself = record { each = λ a l m h. h }
 
-pub within-then : {s t u : List ℕ} → Within s t → Within t u → Within s u
-within-then v w = record { each = λ a l m h. w .each a l m (v .each a l m h) }
+pub subset-then : {s t u : List ℕ} → Subset s t → Subset t u → Subset s u
+subset-then v w = record { each = λ a l m h. w .each a l m (v .each a l m h) }
 
 module _ {b : Role} {s t : List ℕ} (ad : Added (b .issuer) (b .number) s t) where
   abbrev is-b : Role → Bool
@@ -35,7 +35,7 @@ module _ {b : Role} {s t : List ℕ} (ad : Added (b .issuer) (b .number) s t) wh
       ad .each (b .issuer) (b .number)
       ∙ or-right (among s b) (is-b b) (and-intro (eqb (b .issuer) (b .issuer)) (eqb (b .number) (b .number)) (eq-eqb (b .issuer) _ refl) (eq-eqb (b .number) _ refl))
 
-  added-keeps : Within s t
+  added-keeps : Subset s t
   added-keeps = record { each = λ a l m h. ad .each (a .issuer) (a .number) ∙ or-left (among s a) (is-b a) h }
 
   added-cases : (a : Role) → among t a ≡ true → (among s a ≡ true) ⊎ (a ≡ b)
@@ -55,10 +55,10 @@ free-below b f c h (down p k) = f c h _ k (then (down itself h) p)
 
 module _ {e : Graph} where
   pub freed-none : {s : List ℕ} → Freed e s s
-  freed-none = record { kept = within-itself; free = λ f. f }
+  freed-none = record { kept = subset-itself; free = λ f. f }
 
   pub freed-then : {s t u : List ℕ} → Freed e s t → Freed e t u → Freed e s u
-  freed-then v w = record { kept = within-then (v .kept) (w .kept); free = λ f. w .free (v .free f) }
+  freed-then v w = record { kept = subset-then (v .kept) (w .kept); free = λ f. w .free (v .free f) }
 
 -- roles without a senior, issuer by issuer
 module _ {e : Graph} where
@@ -98,27 +98,27 @@ module _ {e : Graph} (num : Numbered e) {k : ℕ} {s : List ℕ} where
   visited-left n = record { freed = freed-none; settled = λ d. absurd (n d) }
 
 -- what is due to a set is due to a larger one
-due-more : {e : Graph} {s t : List ℕ} (b : Role) → Numbered e → Within s t → Due e s b → Due e t b
+due-more : {e : Graph} {s t : List ℕ} (b : Role) → Numbered e → Subset s t → Due e s b → Due e t b
 due-more b num w d = λ a h. let (l, m, _, _) = num a b h in w .each a l m (d a h)
 
 -- a visit of each of the first n roles
-pub record SweptTo (below : Graph) (n : ℕ) (before after : List ℕ) : Type 0 where
+pub record VisitedTo (below : Graph) (n : ℕ) (before after : List ℕ) : Type 0 where
   pub freed : Freed below before after
   pub settled : (k : ℕ) → k < n → Due below before (nth-role k) → among after (nth-role k) ≡ true
 
 module _ {e : Graph} (num : Numbered e) {s₀ : List ℕ} where
-  pub swept-none : SweptTo e 0 s₀ s₀
-  swept-none = record { freed = freed-none; settled = λ k l. absurd (omega arith) }
+  pub visited-none : VisitedTo e 0 s₀ s₀
+  visited-none = record { freed = freed-none; settled = λ k l. absurd (omega arith) }
 
-  pub swept-more : {s t : List ℕ} (n : ℕ) → n < 256 → Visited e n s t → SweptTo e n s₀ s → SweptTo e (n + 1) s₀ t
-  swept-more n h v u = record {
+  pub visited-more : {s t : List ℕ} (n : ℕ) → n < 256 → Visited e n s t → VisitedTo e n s₀ s → VisitedTo e (n + 1) s₀ t
+  visited-more n h v u = record {
     freed = freed-then (u .freed) (v .freed);
     settled = below-more _ n (λ k l d. v .freed .kept .each (nth-role k) (omega arith) (omega arith) (u .settled k l d))
         (λ d. v .settled (due-more (nth-role n) num (u .freed .kept) d));
   }
 
-  pub swept-all : {s : List ℕ} → SweptTo e 256 s₀ s → Swept e s₀ s
-  swept-all {s} u = record {
+  pub visited-all : {s : List ℕ} → VisitedTo e 256 s₀ s → VisitedAll e s₀ s
+  visited-all {s} u = record {
     freed = u .freed;
     settled = λ b l m.
         let k = 16 * b .issuer + b .number in
@@ -126,8 +126,8 @@ module _ {e : Graph} (num : Numbered e) {s₀ : List ℕ} where
   }
 
   -- a sweep that changed nothing
-  pub filled : {s t : List ℕ} → Freed e s₀ s → Swept e s t → Within t s → Filled e s₀ t
-  filled g sw w = record {
-    freed = freed-then g (sw .freed);
-    closed = λ b l m d. sw .settled b l m (due-more b num w d);
+  pub filled : {s t : List ℕ} → Freed e s₀ s → VisitedAll e s t → Subset t s → Filled e s₀ t
+  filled g v w = record {
+    freed = freed-then g (v .freed);
+    closed = λ b l m d. v .settled b l m (due-more b num w d);
   }

@@ -3,5 +3,5 @@ pub mod Rows
 mod Sizes
 mod Freed
 mod Acyclicity
-mod Windows
+mod Slide
 mod Climbing

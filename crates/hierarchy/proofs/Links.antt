@@ -14,7 +14,7 @@ use Rattle.bits.proofs.Stride.{run-in}
 use Rattle.mtas.specs.Fact.{attached, above-15, Below16}
 use Rattle.mtas.specs.Hierarchy.{Role, _#_, nth-role}
 use Rattle.mtas.specs.Law.{attachments}
-use Rattle.mtas.specs.Layout.{view}
+use Rattle.mtas.specs.Layout.{seniors, seniors-at, links-length, state-length, address, view}
 use Rattle.mtas.proofs.Facts.{below-16, none-above-15}
 use Rattle.mtas.proofs.Hierarchy.{Numbered}
 use Rattle.mtas.proofs.Words.{view-says, view-numbered}
@@ -43,29 +43,30 @@ module _ (words : List ℕ) where
   unfolding linked
   linked-bit a b h = rw (none-above-15 (four a b) h, linked)
 
-abbrev cut : List ℕ → List ℕ
-cut ws = take 4096 (drop 4417 ws)
+-- a state's attachment words
+abbrev pub attachment-words : List ℕ → List ℕ
+attachment-words ws = take links-length (drop seniors-at ws)
 
--- the graph of a state's attachment words is the graph of the attachments that stand
-pub linked-attachments : (ws : List ℕ) → linked (take 4096 (drop 4417 ws)) ≡ attachments (view ws)
+-- their graph is the graph of the attachments that stand
+pub linked-attachments : (ws : List ℕ) → linked (attachment-words ws) ≡ attachments (view ws)
 linked-attachments ws = λ t a b. same a b t
   where
-    told : (a b : Role) → Below16 (four (cut ws) a b) → linked (cut ws) a b ≡ attachments (view ws) a b
+    told : (a b : Role) → Below16 (four (attachment-words ws) a b) → linked (attachment-words ws) a b ≡ attachments (view ws) a b
     told a b h =
         let p = 16 * (16 * b .issuer + b .number) + a .issuer in
-        let shift : 4417 + p ≡ 4417 + 16 * (16 * b .issuer + b .number) + a .issuer = omega arith in
-        let word = getD-take 4096 (drop 4417 ws) p 0 (omega arith) ∙ getD-drop 4417 ws p 0 ∙ ap (λ k. getD ws k 0) shift in
-        linked-bit (cut ws) a b h ∙ ap (λ w. bit w (a .number)) word
+        let shift : seniors-at + p ≡ address (seniors (b .issuer) (b .number) (a .issuer)) = omega arith in
+        let word = getD-take links-length (drop seniors-at ws) p 0 (omega arith) ∙ getD-drop seniors-at ws p 0 ∙ ap (λ k. getD ws k 0) shift in
+        linked-bit (attachment-words ws) a b h ∙ ap (λ w. bit w (a .number)) word
         ∙ sym (view-says ws (attached (b .issuer) (b .number) (a .issuer) (a .number)) h)
 
-    same : (a b : Role) → linked (cut ws) a b ≡ attachments (view ws) a b
+    same : (a b : Role) → linked (attachment-words ws) a b ≡ attachments (view ws) a b
     same a b =
-        same-test _ _ (λ e. sym (told a b (let n = linked-numbered (cut ws) a b e in (omega arith, (omega arith, (omega arith, (omega arith, tt)))))) ∙ e)
+        same-test _ _ (λ e. sym (told a b (let n = linked-numbered (attachment-words ws) a b e in (omega arith, (omega arith, (omega arith, (omega arith, tt)))))) ∙ e)
         (λ e. told a b (view-numbered ws (attached (b .issuer) (b .number) (a .issuer) (a .number)) e) ∙ e)
 
 -- a copy of the attachment words, word by word
-pub copied : (state links : List ℕ) {links₀ : List ℕ} → length state ≡ 9025 → length links ≡ 4096
-    → Updated (in-run 0 4096) (λ k x. getD state (4417 + k) 0) links₀ links → links ≡ take 4096 (drop 4417 state)
+pub copied : (state links : List ℕ) {links₀ : List ℕ} → length state ≡ state-length → length links ≡ links-length
+    → Updated (in-run 0 links-length) (λ k x. getD state (seniors-at + k) 0) links₀ links → links ≡ attachment-words state
 copied state links h l u =
     ext-getD 0 links _ (simp (length-take, length-drop) (omega arith))
-    (λ i m. rw (getD-take 4096 (drop 4417 state) i 0 (omega arith), getD-drop 4417 state i 0, u .each i, run-in 0 4096 i (omega arith) (omega arith)))
+    (λ i m. rw (getD-take links-length (drop seniors-at state) i 0 (omega arith), getD-drop seniors-at state i 0, u .each i, run-in 0 links-length i (omega arith) (omega arith)))

@@ -14,7 +14,7 @@ use Rattle.bits.specs.Gather.{gather}
 use Rattle.bits.proofs.Booleans.{below-or-not}
 use Rattle.bits.proofs.Gather.{gather-zero, stray-zero}
 use Rattle.mtas.specs.Hierarchy.{Role, _#_, nth-role}
-use Rattle.hierarchy.specs.Links.{linked, among, Within}
+use Rattle.hierarchy.specs.Links.{linked, among, Subset}
 use Rattle.hierarchy.specs.Freed.{Due}
 use Rattle.hierarchy.proofs.Links.{linked-numbered, linked-bit}
 
@@ -32,18 +32,18 @@ wide-all n v h = record { each = λ k. record { fits = go k (below-or-not k n) }
 
 module _ {row set : List ℕ} (at : ℕ) (wr : Wide row) (ws : Wide set) where
   -- no bit of the row is outside the set
-  row-within : (gather 16 (λ i. bitAnd (getD row (at + i) 0) (65535 - getD set i 0)) ≡ 0)
+  row-subset : (gather 16 (λ i. bitAnd (getD row (at + i) 0) (65535 - getD set i 0)) ≡ 0)
       ↔ ((a : Role) → a .issuer < 16 → a .number < 16 → bit (getD row (at + a .issuer) 0) (a .number) ≡ true → among set a ≡ true)
-  row-within = (
+  row-subset = (
     λ e a l m. stray-zero _ _ (ws .each (a .issuer) .fits) (wr .each (at + a .issuer) .fits) .0 (gather-zero 16 _ .0 e (a .issuer) l) (a .number) m,
     λ h. gather-zero 16 _ .1 (λ i l. stray-zero _ _ (ws .each i .fits) (wr .each (at + i) .fits) .1 (λ n m. h (i # n) l m)),
   )
 
 -- no role of the one set is outside the other
-pub none-outside : {t s : List ℕ} → Wide t → Wide s → (gather 16 (λ i. bitAnd (getD t (0 + i) 0) (65535 - getD s i 0)) ≡ 0) ↔ Within t s
+pub none-outside : {t s : List ℕ} → Wide t → Wide s → (gather 16 (λ i. bitAnd (getD t (0 + i) 0) (65535 - getD s i 0)) ≡ 0) ↔ Subset t s
 none-outside {t} wt ws = (
-  λ e. record { each = λ a l m h. row-within 0 wt ws .0 e a l m (rw (first (a .issuer)) h) },
-  λ w. row-within 0 wt ws .1 (λ a l m p. w .each a l m (rw (first (a .issuer)) at p)),
+  λ e. record { each = λ a l m h. row-subset 0 wt ws .0 e a l m (rw (first (a .issuer)) h) },
+  λ w. row-subset 0 wt ws .1 (λ a l m p. w .each a l m (rw (first (a .issuer)) at p)),
 )
   where
     first : (i : ℕ) → getD t (0 + i) 0 ≡ getD t i 0
@@ -53,8 +53,8 @@ none-outside {t} wt ws = (
 pub all-due : {links set : List ℕ} {k r : ℕ} → k < 256 → Wide links → Wide set
     → r ≡ gather 16 (λ i. bitAnd (getD links (16 * k + i) 0) (65535 - getD set i 0)) → (r ≡ 0) ↔ Due (linked links) set (nth-role k)
 all-due {links} {set} {k} h wl ws e = rw e (
-  λ z a t. let (l, m, _, _) = linked-numbered links a (nth-role k) t in row-within (16 * k) wl ws .0 z a l m (sym (row-link a l m) ∙ t),
-  λ d. row-within (16 * k) wl ws .1 (λ a l m b. d a (row-link a l m ∙ b)),
+  λ z a t. let (l, m, _, _) = linked-numbered links a (nth-role k) t in row-subset (16 * k) wl ws .0 z a l m (sym (row-link a l m) ∙ t),
+  λ d. row-subset (16 * k) wl ws .1 (λ a l m b. d a (row-link a l m ∙ b)),
 )
   where
     row-link : (a : Role) → a .issuer < 16 → a .number < 16 → linked links a (nth-role k) ≡ bit (getD links (16 * k + a .issuer) 0) (a .number)

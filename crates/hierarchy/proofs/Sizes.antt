@@ -10,23 +10,23 @@ use Rattle.bits.specs.Below.{any-below, tally}
 use Rattle.bits.proofs.Below.{any-both-intro, any-both-elim, tally-le, tally-more}
 use Rattle.bits.proofs.Booleans.{clash}
 use Rattle.mtas.specs.Hierarchy.{Role, nth-role}
-use Rattle.hierarchy.specs.Links.{among, Within}
+use Rattle.hierarchy.specs.Links.{among, Subset}
 use Rattle.hierarchy.proofs.Links.{role-at}
 
 abbrev pub size : List ℕ → ℕ
 size s = tally 256 (λ k. among s (nth-role k))
 
-module _ (s t : List ℕ) (w : Within s t) where
+module _ (s t : List ℕ) (w : Subset s t) where
   abbrev new : ℕ → Bool
   new k = among t (nth-role k)
 
   abbrev old : ℕ → Bool
   old k = among s (nth-role k)
 
-  same-or-larger : (Within t s) ⊎ (size s < size t)
+  same-or-larger : (Subset t s) ⊎ (size s < size t)
   same-or-larger = go (any-below 256 (λ k. new k && not (old k))) refl
     where
-      go : (x : Bool) → any-below 256 (λ k. new k && not (old k)) ≡ x → (Within t s) ⊎ (size s < size t)
+      go : (x : Bool) → any-below 256 (λ k. new k && not (old k)) ≡ x → (Subset t s) ⊎ (size s < size t)
       go true q =
           let (k, l, h, g) = any-both-elim 256 new (λ k. not (old k)) q in
           inr (tally-more old new 256 (λ j m. w .each (nth-role j) (omega arith) (omega arith)) k l (not-true (old k) g) h)
@@ -41,9 +41,9 @@ module _ (s t : List ℕ) (w : Within s t) where
               (ap not (subst (λ x. among s x ≡ false) at r))) q)
 
   -- fewer roles are outside
-  pub fewer-outside : (Within t s → ⊥) → 256 - size t < 256 - size s
+  pub fewer-outside : (Subset t s → ⊥) → 256 - size t < 256 - size s
   fewer-outside n = go same-or-larger
     where
-      go : (Within t s) ⊎ (size s < size t) → 256 - size t < 256 - size s
+      go : (Subset t s) ⊎ (size s < size t) → 256 - size t < 256 - size s
       go (inl v) = absurd (n v)
       go (inr l) = omega (arith, tally-le 256 (λ k. among t (nth-role k)))

@@ -7,7 +7,7 @@ use lib.Dec.{eqb}
 use lib.ListN.{length, getD}
 use Rattle.bits.specs.Bit.{bit}
 use Rattle.mtas.specs.Hierarchy.{Role, _#_, Graph, Reaches, nth-role}
-use Rattle.hierarchy.specs.Links.{among, Within}
+use Rattle.hierarchy.specs.Links.{among, Subset}
 
 -- b is on no circle
 abbrev pub Free : Graph → Role → Type 0
@@ -27,7 +27,7 @@ pub record TopsOf (below : Graph) (j word : ℕ) : Type 0 where
 
 -- more roles, none of them on a circle if none was before
 pub record Freed (below : Graph) (before after : List ℕ) : Type 0 where
-  pub kept : Within before after
+  pub kept : Subset before after
   pub free : AllFree below before → AllFree below after
 
 -- a visit of the k-th role: if it was due, it is in the set afterwards
@@ -36,7 +36,7 @@ pub record Visited (below : Graph) (k : ℕ) (before after : List ℕ) : Type 0 
   pub settled : Due below before (nth-role k) → among after (nth-role k) ≡ true
 
 -- a visit of every role
-pub record Swept (below : Graph) (before after : List ℕ) : Type 0 where
+pub record VisitedAll (below : Graph) (before after : List ℕ) : Type 0 where
   pub freed : Freed below before after
   pub settled : (b : Role) → b .issuer < 16 → b .number < 16 → Due below before b → among after b ≡ true
 
@@ -46,6 +46,6 @@ pub record Filled (below : Graph) (before after : List ℕ) : Type 0 where
   pub closed : (b : Role) → b .issuer < 16 → b .number < 16 → Due below after b → among after b ≡ true
 
 -- 65535 in the middle of thirty zeros
-pub record Window (words : List ℕ) : Type 0 where
+pub record Slide (words : List ℕ) : Type 0 where
   pub long : length words ≡ 31
   pub each : (n : ℕ) → n < 31 → getD words n 0 ≡ cond (eqb n 15) 65535 0

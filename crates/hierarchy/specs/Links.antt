@@ -22,7 +22,7 @@ abbrev pub among : List ℕ → Role → Bool
 among set a = in-set set (a .issuer) (a .number)
 
 -- every role of the one set is in the other
-pub record Within (s t : List ℕ) : Type 0 where
+pub record Subset (s t : List ℕ) : Type 0 where
   pub each : (a : Role) → a .issuer < 16 → a .number < 16 → among s a ≡ true → among t a ≡ true
 
 -- every role is in the set

@@ -3,6 +3,7 @@
 ghost use mathlib.Core.Path.{_≡_};
 ghost use Prim.Native.Nat.{_<_};
 ghost use lib.ListN.{length, take, drop};
+ghost use Rattle.mtas.specs.Layout.{seniors-at, links-length, state-length};
 ghost use Rattle.hierarchy.specs.Links.{linked, Reaching};
 ghost use Rattle.hierarchy.specs.Climbing.{BitsIn, Lifted, Climbed};
 use bits::RoleSet;
@@ -11,21 +12,21 @@ mod circles;
 
 pub use circles::acyclic;
 
-// The 4,096 attachment words of a state, copied.
-pub fn attachments_of(state: &[u16]) -> [u16; 4096]
-    requires { ⌜ length (now state) ≡ 9025 ⌝ }
-    ensures { λ r. ⌜ r ≡ take 4096 (drop 4417 (now (state .entry))) ⌝ }
+// The attachment words of a state, copied.
+pub fn attachments_of(state: &[u16]) -> [u16; layout::LINKS]
+    requires { ⌜ length (now state) ≡ state-length ⌝ }
+    ensures { λ r. ⌜ r ≡ take links-length (drop seniors-at (now (state .entry))) ⌝ }
 {
-    let mut links = [0u16; 4096];
-    for k in 0..4096 {
-        links[k] = state[4417 + k];
+    let mut links = [0u16; layout::LINKS];
+    for k in 0..layout::LINKS {
+        links[k] = state[layout::SENIORS_AT + k];
     }
     links
 }
 
 // The direct seniors of the roles of issuer i that are bits of the word are seen too, and those of the roles of i that come so.
 fn lift(links: &[u16], i: usize, word: u16, mut seen: RoleSet) -> RoleSet
-    requires { ⌜ (length (now links) ≡ 4096) × (i < 16) × BitsIn word (seen .words) i ⌝ }
+    requires { ⌜ (length (now links) ≡ links-length) × (i < 16) × BitsIn word (seen .words) i ⌝ }
     ensures { λ r. ⌜ Lifted (linked (now (links .entry))) i word (seen .words) (r .words) ⌝ }
 {
     let mut rest = word;
@@ -48,7 +49,7 @@ struct Climb {
 
 // Every role seen is done, issuer by issuer.
 fn round(links: &[u16], from: Climb) -> Climb
-    requires { ⌜ length (now links) ≡ 4096 ⌝ }
+    requires { ⌜ length (now links) ≡ links-length ⌝ }
     ensures { λ r. ⌜ Climbed (linked (now (links .entry))) (from .seen) (from .done) (r .seen) (r .done) ⌝ }
 {
     let words = from.seen;
@@ -70,7 +71,7 @@ fn round(links: &[u16], from: Climb) -> Climb
 
 // The roles that reach one of a set.
 pub fn above(links: &[u16], set: RoleSet) -> RoleSet
-    requires { ⌜ length (now links) ≡ 4096 ⌝ }
+    requires { ⌜ length (now links) ≡ links-length ⌝ }
     ensures { λ r. ⌜ Reaching (linked (now (links .entry))) (set .words) (r .words) ⌝ }
 {
     let mut seen = set.words;

@@ -13,7 +13,8 @@ use Rattle.bits.specs.Gather.{gather}
 use Rattle.bits.proofs.Booleans.{below-or-not}
 use Rattle.bits.proofs.Gather.{or-zero, gather-zero, stray-zero}
 use Rattle.mtas.specs.Fact.{Fact, enrolled, trusts, user, role, permission, holds, granted, attached}
-use Rattle.mtas.specs.Layout.{Word, address, enrolled-issuers, trusted, users, roles, permissions, held, session-user, active-roles, holders-at, seniors-at, read, says}
+use Rattle.mtas.specs.Layout.{Word, address, enrolled-issuers, trusted, users, roles, permissions, held, session-user, active-roles, holders-at, seniors-at, cell, read, says}
+use Rattle.mtas.specs.LawTest.{Fits}
 use Rattle.law.specs.Stray.{outside, allowed, trust-stray, present-stray, own-stray, held-stray, rows-stray, session-stray, sessions-stray, issuer-stray}
 use Rattle.law.proofs.Inside.{inside-if, inside-if-both, none-unless, has-if}
 use Rattle.law.proofs.Sessions.{user-present, user-absent, closed, no-user}
@@ -25,33 +26,35 @@ gather-iff : (f : ℕ → ℕ) {P : ℕ → Type 0} → ((k : ℕ) → k < 16 �
 gather-iff f h = (λ e k l. h k l .0 (gather-zero 16 f .0 e k l), λ p. gather-zero 16 f .1 (λ k l. h k l .1 (p k l)))
 
 module _ (ws : List ℕ) where
-  abbrev pub Says : Fact → Type 0
-  Says f = says ws f ≡ true
+  -- the words say f
+  abbrev pub Stated : Fact → Type 0
+  Stated f = says ws f ≡ true
 
   abbrev Trust : ℕ → Type 0
-  Trust i = (j : ℕ) → j < 16 → Says (trusts i j) → Says (enrolled i) × Says (enrolled j)
+  Trust i = (j : ℕ) → j < 16 → Stated (trusts i j) → Stated (enrolled i) × Stated (enrolled j)
 
   abbrev Itself : ℕ → Type 0
-  Itself i = Says (enrolled i) → Says (trusts i i)
+  Itself i = Stated (enrolled i) → Stated (trusts i i)
 
   abbrev Owned : ℕ → (ℕ → Fact) → Type 0
-  Owned i f = (n : ℕ) → n < 16 → Says (f n) → Says (enrolled i)
+  Owned i f = (n : ℕ) → n < 16 → Stated (f n) → Stated (enrolled i)
 
   abbrev Held : ℕ → Type 0
-  Held i = (u : ℕ) → u < 16 → (r : ℕ) → r < 16 → Says (holds i u r) → Says (user i u) × Says (role i r)
+  Held i = (u : ℕ) → u < 16 → (r : ℕ) → r < 16 → Stated (holds i u r) → Stated (user i u) × Stated (role i r)
 
-  -- grants of j's permissions, and attachments of j's roles
-  abbrev Linked : ℕ → (ℕ → Fact) → (ℕ → ℕ → ℕ → Fact) → Type 0
-  Linked j owned link =
-      (p : ℕ) → p < 16 → (i : ℕ) → i < 16 → (r : ℕ) → r < 16 → Says (link p i r) → Says (owned p) × Says (trusts i j) × Says (role i r)
+  -- both ends of the grants of j's permissions, or of the attachments of j's roles
+  abbrev Ends : ℕ → (ℕ → Fact) → (ℕ → ℕ → ℕ → Fact) → Type 0
+  Ends j owned link =
+      (p : ℕ) → p < 16 → (i : ℕ) → i < 16 → (r : ℕ) → r < 16 → Stated (link p i r) → Stated (owned p) × Stated (trusts i j) × Stated (role i r)
 
-  -- an open session's user is present and holds the active roles; a closed one has none
-  abbrev pub Session : ℕ → ℕ → Type 0
+  -- a session is open or closed, and a closed one has no active roles; an open one's user is present and holds them
+  abbrev Session : ℕ → ℕ → Type 0
   Session i s =
-      ((read ws (session-user i s) < 16)
-      × Says (user i (read ws (session-user i s)))
-      × ((r : ℕ) → r < 16 → bit (read ws (active-roles i s)) r ≡ true → Says (holds i (read ws (session-user i s)) r)))
-      ⊎ ((read ws (session-user i s) ≡ 65535) × (read ws (active-roles i s) ≡ 0))
+      Fits ws (cell (session-user i s)) (read ws (session-user i s))
+      × Fits ws (cell (active-roles i s)) (read ws (active-roles i s))
+      × (read ws (session-user i s) < 16
+      → Stated (user i (read ws (session-user i s)))
+      × ((r : ℕ) → r < 16 → bit (read ws (active-roles i s)) r ≡ true → Stated (holds i (read ws (session-user i s)) r)))
 
   pub record Conditions (i : ℕ) : Type 0 where
     pub trust : Trust i
@@ -60,8 +63,8 @@ module _ (ws : List ℕ) where
     pub roles-of : Owned i (role i)
     pub permissions-of : Owned i (permission i)
     pub held-by : Held i
-    pub grants : Linked i (permission i) (granted i)
-    pub attachments-of : Linked i (role i) (attached i)
+    pub grants : Ends i (permission i) (granted i)
+    pub attachments-of : Ends i (role i) (attached i)
     pub sessions : (s : ℕ) → s < 16 → Session i s
 
   module _ (wide : (k : ℕ) → getD ws k 0 < 65536) (i : ℕ) (li : i < 16) where
@@ -84,13 +87,13 @@ module _ (ws : List ℕ) where
     rows-zero : (from present : ℕ)
         → (rows-stray ws from i present (allowed ws i) ≡ 0)
         ↔ ((p : ℕ) → p < 16 → (k : ℕ) → k < 16 → (r : ℕ) → r < 16 → bit (getD ws (from + 16 * (16 * i + p) + k) 0) r ≡ true
-        → (bit present p ≡ true) × Says (trusts k i) × Says (role k r))
+        → (bit present p ≡ true) × Stated (trusts k i) × Stated (role k r))
     unfolding rows-stray
     rows-zero from present = (λ e p l k m. all .0 e k m p l, λ f. all .1 (λ k m p l. f p l k m))
       where
         all : (rows-stray ws from i present (allowed ws i) ≡ 0)
             ↔ ((k : ℕ) → k < 16 → (p : ℕ) → p < 16 → (r : ℕ) → r < 16 → bit (getD ws (from + 16 * (16 * i + p) + k) 0) r ≡ true
-            → (bit present p ≡ true) × Says (trusts k i) × Says (role k r))
+            → (bit present p ≡ true) × Stated (trusts k i) × Stated (role k r))
         all =
             gather-iff _ (λ k _. gather-iff _ (λ p _.
             inside-if-both (bit present p) (bit (read ws (trusted k)) i) _ _ (wide (from + 16 * (16 * i + p) + k)) (wide (address (roles k)))))
@@ -104,24 +107,24 @@ module _ (ws : List ℕ) where
         a : ℕ
         a = read ws (active-roles i s)
 
-        roles-held : (outside a (read ws (held i w)) ≡ 0) ↔ ((r : ℕ) → r < 16 → bit a r ≡ true → Says (holds i w r))
+        roles-held : (outside a (read ws (held i w)) ≡ 0) ↔ ((r : ℕ) → r < 16 → bit a r ≡ true → Stated (holds i w r))
         roles-held = stray-zero a (read ws (held i w)) (wide (address (held i w))) (wide (address (active-roles i s)))
 
         split : session-stray ws i s ≡ 0 → (w < 16) ⊎ (16 ≤ w) → Session i s
         split e (inl l) = go (bit (read ws (users i)) w) refl
           where
             go : (b : Bool) → bit (read ws (users i)) w ≡ b → Session i s
-            go true q = inl (l, q, roles-held .0 (user-present ws i s l refl q refl ∙ e))
+            go true q = (inl l, λ c. absurd (omega arith), λ _. (q, roles-held .0 (user-present ws i s l refl q refl ∙ e)))
             go false q = absurd (let z : _≡_ {A = ℕ} 1 0 = user-absent ws i s l refl q ∙ e in omega arith)
         split e (inr l) = go (ℕ-discrete w 65535)
           where
             go : Dec (w ≡ 65535) → Session i s
-            go (yes q) = inr (q, closed ws i s l q ∙ e)
+            go (yes q) = (inr q, λ _. closed ws i s l q ∙ e, λ o. absurd (omega arith))
             go (no n) = absurd (let z : _≡_ {A = ℕ} 1 0 = no-user ws i s l n ∙ e in omega arith)
 
         join : Session i s → session-stray ws i s ≡ 0
-        join (inl (l, q, f)) = sym (user-present ws i s l refl q refl) ∙ roles-held .1 f
-        join (inr (q, z)) = sym (closed ws i s (omega arith) q) ∙ z
+        join (inl l, z, o) = let (q, f) = o l in sym (user-present ws i s l refl q refl) ∙ roles-held .1 f
+        join (inr q, z, o) = sym (closed ws i s (omega arith) q) ∙ z q
 
     pub issuer-zero : (issuer-stray ws i ≡ 0) ↔ Conditions i
     unfolding issuer-stray sessions-stray
@@ -146,7 +149,7 @@ module _ (ws : List ℕ) where
       where
         all : (issuer-stray ws i ≡ 0)
             ↔ ((((((Trust i × Itself i) × ((Owned i (user i) × Owned i (role i)) × Owned i (permission i))) × Held i)
-            × Linked i (permission i) (granted i)) × Linked i (role i) (attached i)) × ((s : ℕ) → s < 16 → Session i s))
+            × Ends i (permission i) (granted i)) × Ends i (role i) (attached i)) × ((s : ℕ) → s < 16 → Session i s))
         all =
             or-iff (or-iff (or-iff (or-iff own-zero held-zero) (rows-zero holders-at (read ws (permissions i))))
             (rows-zero seniors-at (read ws (roles i)))) (gather-iff (session-stray ws i) (λ s _. session-zero s))

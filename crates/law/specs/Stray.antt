@@ -70,6 +70,10 @@ session-stray ws i s =
     1)
     (cond (eqb (read ws (session-user i s)) 65535) (read ws (active-roles i s)) 1)
 
+-- the bits of a session that are not those of a closed one
+abbrev pub awake : List ℕ → ℕ → ℕ → ℕ
+awake ws i s = bitOr (65535 - read ws (session-user i s)) (read ws (active-roles i s))
+
 unfoldable pub sessions-stray : List ℕ → ℕ → ℕ
 sessions-stray ws i = gather 16 (session-stray ws i)
 

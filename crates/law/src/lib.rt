@@ -5,10 +5,11 @@ ghost use mathlib.Core.Logic.{_↔_};
 ghost use mathlib.Core.Bool.{true};
 ghost use Prim.Native.Nat.{_+_, _*_, _<_, _≤_};
 ghost use lib.ListN.{length, getD};
+ghost use Rattle.bits.specs.Gather.{gather};
 ghost use Rattle.mtas.specs.Layout.{state-length};
 ghost use Rattle.mtas.specs.LawTest.{lawful-words};
 ghost use Rattle.law.specs.Supported.{Supported};
-ghost use Rattle.law.specs.Stray.{only-if, outside, own-stray, held-stray, OnlyIf, Trusting, RowGathered, rows-stray, session-stray, sessions-stray, issuer-stray};
+ghost use Rattle.law.specs.Stray.{only-if, outside, own-stray, held-stray, OnlyIf, Trusting, RowGathered, rows-stray, session-stray, awake, sessions-stray, issuer-stray};
 
 // w where the test holds, else no bit.
 fn only_if(test: bool, w: u16) -> u16
@@ -31,14 +32,14 @@ fn stray_own(state: &[u16], i: usize) -> u16
 {
     let n = i as u8;
     let enrolled = state[0];
-    let trusted = state[1 + i];
+    let trusted = state[layout::TRUSTED_AT + i];
     let here = bits::has_bit(enrolled, n);
     let itself = bits::with_bit(0, n);
     let all = only_if(here, 65535);
     let trust = outside(trusted, only_if(here, enrolled)) | outside(only_if(here, itself), trusted);
-    let present = outside(state[17 + i], all)
-        | outside(state[33 + i], all)
-        | outside(state[49 + i], all);
+    let present = outside(state[layout::USERS_AT + i], all)
+        | outside(state[layout::ROLES_AT + i], all)
+        | outside(state[layout::PERMISSIONS_AT + i], all);
     trust | present
 }
 
@@ -47,12 +48,12 @@ fn stray_held(state: &[u16], i: usize) -> u16
     requires { ⌜ (length (now state) ≡ state-length) × (i < 16) ⌝ }
     ensures { λ r. ⌜ r ≡ held-stray (now (state .entry)) i ⌝ }
 {
-    let users = state[17 + i];
-    let roles = state[33 + i];
+    let users = state[layout::USERS_AT + i];
+    let roles = state[layout::ROLES_AT + i];
     let mut found = 0u16;
     for u in 0..16 {
         let allowed = only_if(bits::has_bit(users, u as u8), roles);
-        found = found | outside(state[65 + 16 * i + u], allowed);
+        found = found | outside(state[layout::HELD_AT + 16 * i + u], allowed);
     }
     found
 }
@@ -65,7 +66,10 @@ fn trusting(state: &[u16], j: usize) -> bits::RoleSet
     let n = j as u8;
     let mut words = [0u16; 16];
     for i in 0..16 {
-        words[i] = only_if(bits::has_bit(state[1 + i], n), state[33 + i]);
+        words[i] = only_if(
+            bits::has_bit(state[layout::TRUSTED_AT + i], n),
+            state[layout::ROLES_AT + i],
+        );
     }
     bits::RoleSet { words }
 }
@@ -116,26 +120,42 @@ fn stray_session(state: &[u16], i: usize, s: usize) -> u16
     requires { ⌜ (length (now state) ≡ state-length) × (i < 16) × (s < 16) ⌝ }
     ensures { λ r. ⌜ r ≡ session-stray (now (state .entry)) i s ⌝ }
 {
-    let at = 8513 + 2 * (16 * i + s);
+    let at = layout::SESSIONS_AT + 2 * (16 * i + s);
     let user = state[at];
     let active = state[at + 1];
     if user < 16 {
-        if bits::has_bit(state[17 + i], user as u8) {
-            return outside(active, state[65 + 16 * i + user as usize]);
+        if bits::has_bit(state[layout::USERS_AT + i], user as u8) {
+            return outside(active, state[layout::HELD_AT + 16 * i + user as usize]);
         }
         return 1;
     }
-    if user == 65535 {
+    if user == layout::NOBODY {
         return active;
     }
     1
 }
 
-// The sessions of i.
+// The bits of i's sessions that are not those of a closed one: none where all of them are closed.
+fn awake(state: &[u16], i: usize) -> u16
+    requires { ⌜ (length (now state) ≡ state-length) × (i < 16) ⌝ }
+    ensures { λ r. ⌜ r ≡ gather 16 (awake (now (state .entry)) i) ⌝ }
+{
+    let mut found = 0u16;
+    for s in 0..16 {
+        let at = layout::SESSIONS_AT + 2 * (16 * i + s);
+        found = found | (!state[at] | state[at + 1]);
+    }
+    found
+}
+
+// The sessions of i. Most issuers have none open, and then sixteen are looked at at once.
 fn stray_sessions(state: &[u16], i: usize) -> u16
     requires { ⌜ (length (now state) ≡ state-length) × (i < 16) ⌝ }
     ensures { λ r. ⌜ r ≡ sessions-stray (now (state .entry)) i ⌝ }
 {
+    if awake(state, i) == 0 {
+        return 0;
+    }
     let mut found = 0u16;
     for s in 0..16 {
         found = found | stray_session(state, i, s);
@@ -149,12 +169,24 @@ fn stray_of(state: &[u16], i: usize) -> u16
     ensures { λ r. ⌜ r ≡ issuer-stray (now (state .entry)) i ⌝ }
 {
     let allowed = trusting(state, i);
-    let holders = stray_rows(state, 321, i, state[49 + i], allowed);
-    let seniors = stray_rows(state, 4417, i, state[33 + i], allowed);
+    let holders = stray_rows(
+        state,
+        layout::HOLDERS_AT,
+        i,
+        state[layout::PERMISSIONS_AT + i],
+        allowed,
+    );
+    let seniors = stray_rows(
+        state,
+        layout::SENIORS_AT,
+        i,
+        state[layout::ROLES_AT + i],
+        allowed,
+    );
     stray_own(state, i) | stray_held(state, i) | holders | seniors | stray_sessions(state, i)
 }
 
-// Whether what stands has what it needs, and each session's pair is an open or a closed one's.
+// Whether what stands has what it needs, and each session's words are an open or a closed one's.
 fn supported(state: &[u16]) -> bool
     requires { ⌜ length (now state) ≡ state-length ⌝ }
     ensures { λ r. ⌜ (r ≡ true) ↔ Supported (now (state .entry)) ⌝ }
@@ -172,7 +204,7 @@ pub fn lawful(state: &[u16]) -> bool
     ensures { λ r. ⌜ r ≡ lawful-words (now (state .entry)) ⌝ }
 {
     if supported(state) {
-        hierarchy::acyclic(&state[4417..8513])
+        hierarchy::acyclic(&state[layout::SENIORS_AT..layout::SESSIONS_AT])
     } else {
         false
     }

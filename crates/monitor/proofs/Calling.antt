@@ -7,7 +7,7 @@ use lib.ListN.{length}
 use borrow.Author.Tests.{eq-eqb, ne-eqb, not-true, not-false}
 use Rattle.mtas.specs.Call as model
 use Rattle.mtas.specs.State.{State, user-of}
-use Rattle.mtas.specs.Rule.{rule, effect}
+use Rattle.mtas.specs.Rule.{rule}
 use Rattle.mtas.specs.Answer.{accepted, refused, outcome, Outcome, verdict-of, answer, next}
 use Rattle.mtas.specs.Layout.{state-length, view, encode}
 use Rattle.mtas.specs.LawTest.{LawfulWords, lawful-words}
@@ -22,32 +22,30 @@ use Rattle.record.specs.declared.Call.{Call}
 use Rattle.record.specs.declared.Decoded.{Decoded}
 use Rattle.record.specs.declared.Decoded.the-variants.{Request as Requested, Undecodable}
 use Rattle.answers.specs.Refusal.{Refusal, Verdict}
-use Rattle.answers.proofs.Dispatch.{accepted-of}
+use Rattle.answers.proofs.Refusals.{accepted-of}
 use Rattle.effects.specs.Effect.{Accepted, Left}
-use Rattle.monitor.specs.Contract.{Gives}
+use Rattle.monitor.specs.declared.Answer.{Answer}
+use Rattle.monitor.specs.Contract.{Gives, two-numbers}
+use Rattle.monitor.proofs.Starting.{gives}
 
-module _ {ws : List ℕ} (b : List ℕ) where
-  pub wrong-length : (length ws ≡ state-length → ⊥) → Gives (monitor ws b) 1 0 ws
+module _ {ws : List ℕ} (b : List ℕ) {r : Answer} where
+  pub wrong-length : (length ws ≡ state-length → ⊥) → r ≡ two-numbers 1 0 → Gives (monitor ws b) (r .refusal) (r .verdict) ws
   unfolding monitor
-  wrong-length n = rw (ne-eqb (length ws) state-length n, monitor) (record { same-refusal = refl; same-verdict = refl; same-words = refl })
+  wrong-length n q = gives q (rw (ne-eqb (length ws) state-length n, monitor) (record { same-refusal = refl; same-verdict = refl; same-words = refl }))
 
   -- t is the law test
-  pub unlawful : {t : Bool} → length ws ≡ state-length → t ≡ lawful-words ws → not t ≡ true → Gives (monitor ws b) 2 0 ws
+  pub unlawful : {t : Bool} → length ws ≡ state-length → t ≡ lawful-words ws → not t ≡ true → r ≡ two-numbers 2 0 → Gives (monitor ws b) (r .refusal) (r .verdict) ws
   unfolding monitor
-  unlawful {t} l e h = rw (eq-eqb (length ws) state-length l, sym e ∙ not-true t h, monitor) (record { same-refusal = refl; same-verdict = refl; same-words = refl })
+  unlawful {t} l e h q = gives q (rw (eq-eqb (length ws) state-length l, sym e ∙ not-true t h, monitor) (record { same-refusal = refl; same-verdict = refl; same-words = refl }))
 
 pub lawful-of : {ws : List ℕ} {t : Bool} → t ≡ lawful-words ws → not t ≡ false → LawfulWords ws
 lawful-of {ws} {t} e h = lawful-words-sound ws (sym e ∙ not-false t h)
 
 -- a call with refusal 0
-module _ {ws : List ℕ} {c r : ℕ} {k : model.Call} (t : Refusal ws c k r) (z : r ≡ 0) where
-  pub zero : Refusal ws c k 0
-  zero = rw z at t
+pub accepted-call : {ws : List ℕ} {c r : ℕ} {k : model.Call} → Refusal ws c k r → r ≡ 0 → LawfulWords ws → Accepted ws c k
+accepted-call t z W = record { lawful = W; passes = accepted-of t z }
 
-  pub accepted-call : LawfulWords ws → Accepted ws c k
-  accepted-call W = record { lawful = W; passes = accepted-of t z }
-
-accepted-verdict : (st : State) (c : ℕ) (k : model.Call) → outcome st c k ≡ accepted → (answer st c k) .verdict ≡ verdict-of st c (effect (rule (user-of st c) c k))
+accepted-verdict : (st : State) (c : ℕ) (k : model.Call) → outcome st c k ≡ accepted → (answer st c k) .verdict ≡ verdict-of st c (rule (user-of st c) c k .effect)
 unfolding answer
 accepted-verdict st c k e = rw e
 
@@ -59,12 +57,12 @@ module _ {ws : List ℕ} (b : List ℕ) (W : LawfulWords ws) {d : Decoded} (e : 
       monitor-lawful ws b W
       ∙ ap (λ q. record { answer = answered (view ws) q; words = encode (state-after (view ws) q) }) (sym e ∙ ap request-of h)
 
-  pub undecoded : d ≡ Undecodable → Gives (monitor ws b) 3 0 ws
-  undecoded h = rw (given h) (record { same-refusal = refl; same-verdict = refl; same-words = sym (encode-view ws W) })
+  pub undecoded : {x : Answer} → d ≡ Undecodable → x ≡ two-numbers 3 0 → Gives (monitor ws b) (x .refusal) (x .verdict) ws
+  undecoded h q = gives q (rw (given h) (record { same-refusal = refl; same-verdict = refl; same-words = sym (encode-view ws W) }))
 
   module _ {c r : ℕ} {k : Call} (h : d ≡ Requested c k) (t : Refusal ws c (call-of k) r) where
-    pub refused-call : (r ≡ 0 → ⊥) → Gives (monitor ws b) r 0 ws
-    refused-call n = rw (given h) (go (outcome (view ws) c (call-of k)) refl)
+    pub refused-call : {x : Answer} → (r ≡ 0 → ⊥) → x ≡ two-numbers r 0 → Gives (monitor ws b) (x .refusal) (x .verdict) ws
+    refused-call n q = gives q (rw (given h) (go (outcome (view ws) c (call-of k)) refl))
       where
         go : (o : Outcome) → outcome (view ws) c (call-of k) ≡ o → Gives (record { answer = answer (view ws) c (call-of k); words = encode (next (view ws) c (call-of k)) }) r 0 ws
         go accepted q = absurd (n (t .is ∙ accepted-zero (view ws) c (call-of k) q))

@@ -1,10 +1,9 @@
 // The reference monitor (document 01's desk): starting, and a call record played on the lent state.
 ghost use mathlib.Core.Path.{_≡_};
-ghost use lib.ListN.{length};
-ghost use Rattle.bits.specs.Update.{Updated};
-ghost use Rattle.mtas.specs.Layout.{state-length};
-ghost use Rattle.mtas.specs.Monitor.{start, monitor};
-ghost use Rattle.monitor.specs.Contract.{Gives, user-place};
+ghost use Prim.Native.Nat.{_<_};
+ghost use Rattle.mtas.specs.Layout.{state-length, cell, word-at};
+ghost use Rattle.mtas.specs.Monitor.{initial, start, monitor};
+ghost use Rattle.monitor.specs.Contract.{Gives, two-numbers};
 use record::Decoded;
 
 // A refusal (0 for accepted) and a verdict.
@@ -13,63 +12,59 @@ pub struct Answer {
     pub verdict: u16,
 }
 
-// Writes 65535 as each session's user.
-fn close_all(state: &mut [u16])
-    requires { ⌜ length (now state) ≡ state-length ⌝ }
-    ensures { λ _. ⌜ Updated (user-place 256) (λ k x. 65535) (now (state .entry)) (now (state .exit)) ⌝ }
+// The answer to a refused call, and to starting: verdict 0.
+fn refuse(n: u16) -> Answer
+    ensures { λ r. ⌜ r ≡ two-numbers n 0 ⌝ }
 {
-    for s in 0..256 {
-        let k = 8513 + 2 * s;
-        state[k] = 65535;
+    Answer {
+        refusal: n,
+        verdict: 0,
     }
+}
+
+// The word at a place, as starting writes it.
+fn initial(k: usize) -> u16
+    requires { ⌜ k < state-length ⌝ }
+    ensures { λ r. ⌜ r ≡ initial (cell (word-at k)) ⌝ }
+{
+    if k < layout::SESSIONS_AT {
+        return 0;
+    }
+    if (k - layout::SESSIONS_AT) % 2 == 0 {
+        return layout::NOBODY;
+    }
+    0
 }
 
 // Starting: a state of any words and any length.
 pub fn start(state: &mut [u16]) -> Answer
     ensures { λ r. ⌜ Gives (start (now (state .entry))) (r .refusal) (r .verdict) (now (state .exit)) ⌝ }
 {
-    if state.len() != 9025 {
-        return Answer {
-            refusal: 1,
-            verdict: 0,
-        };
+    if state.len() != layout::STATE_LENGTH {
+        return refuse(1);
     }
-    bits::mask_run(state, 0, 9025, 0);
-    close_all(state);
-    Answer {
-        refusal: 0,
-        verdict: 0,
+    for k in 0..layout::STATE_LENGTH {
+        state[k] = initial(k);
     }
+    refuse(0)
 }
 
 // A record of any bytes, played on a state of any words and any length.
 pub fn call(state: &mut [u16], record: &[u8]) -> Answer
     ensures { λ r. ⌜ Gives (monitor (now (state .entry)) (now («record» .entry))) (r .refusal) (r .verdict) (now (state .exit)) ⌝ }
 {
-    if state.len() != 9025 {
-        return Answer {
-            refusal: 1,
-            verdict: 0,
-        };
+    if state.len() != layout::STATE_LENGTH {
+        return refuse(1);
     }
     if !law::lawful(state) {
-        return Answer {
-            refusal: 2,
-            verdict: 0,
-        };
+        return refuse(2);
     }
     let Decoded::Request(caller, call) = record::decode(record) else {
-        return Answer {
-            refusal: 3,
-            verdict: 0,
-        };
+        return refuse(3);
     };
     let refusal = answers::refusal(state, caller, call);
     if refusal != 0 {
-        return Answer {
-            refusal,
-            verdict: 0,
-        };
+        return refuse(refusal);
     }
     let verdict = answers::verdict(state, caller, call);
     effects::change(state, caller, call);

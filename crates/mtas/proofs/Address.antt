@@ -1,15 +1,15 @@
 -- The words of the state and their addresses: address and word-at undo each other.
-use mathlib.Core.Path.{_≡_, refl, ap, ap₂}
+use mathlib.Core.Path.{_≡_, refl, ap, ap₂, _∙_}
 use mathlib.Core.List.{List, [], _∷_}
 use mathlib.Core.Bool.{Bool, true, false}
-use Prim.Native.Nat.{ℕ, _≤_, _<_, _-_, _%_}
+use Prim.Native.Nat.{ℕ, zero, suc, _≤_, _<_, _-_, _%_}
 use native.Mathlib.Omega.{arith}
-use lib.Dec.{ltb, leb, eqb}
-use borrow.Author.Tests.{ltb-true, ltb-false, leb-true, eqb-true, eqb-false, lt-ltb, le-ltb}
+use lib.Dec.{ltb, eqb}
+use borrow.Author.Tests.{ltb-true, ltb-false, eqb-true, eqb-false, lt-ltb, le-ltb}
 use Rattle.mtas.specs.Fact.{Below16}
-use Rattle.mtas.specs.Layout.{Word, enrolled-issuers, trusted, users, roles, permissions, held, holders, seniors, session-user, active-roles, trusted-at, users-at, roles-at, permissions-at, held-at, holders-at, seniors-at, sessions-at, state-length, address, word-at}
+use Rattle.mtas.specs.Layout.{Word, enrolled-issuers, trusted, users, roles, permissions, held, holders, seniors, session-user, active-roles, trusted-at, users-at, roles-at, permissions-at, held-at, holders-at, seniors-at, sessions-at, state-length, address, Region, regions, word-in, word-at}
 
-ruleset tests = (arith, ltb-true, ltb-false, leb-true, eqb-true, eqb-false)
+ruleset tests = (arith, ltb-true, ltb-false, eqb-true, eqb-false)
 
 abbrev pub word-numbers : Word → List ℕ
 word-numbers enrolled-issuers = []
@@ -35,12 +35,24 @@ address-below (seniors j q i) h = omega arith
 address-below (session-user i s) h = omega arith
 address-below (active-roles i s) h = omega arith
 
--- the tests of word-at that a word fails, and the one that it passes
-past : (w : Word) (m : ℕ) → m ≤ address w → (n : ℕ) → leb n m ≡ true → ltb (address w) n ≡ false
-past w m h n e = le-ltb (address w) n (omega tests)
+-- the first n regions begin at k or before it, and the next one doesn't
+abbrev Begun : ℕ → List Region → ℕ → Type 0
+Begun zero [] k = Unit
+Begun zero (r ∷ l) k = k < r .from
+Begun (suc n) [] k = Unit
+Begun (suc n) (r ∷ l) k = (r .from ≤ k) × Begun n l k
 
-before : (w : Word) (n : ℕ) → address w < n → ltb (address w) n ≡ true
-before w n h = lt-ltb (address w) n h
+-- the word at k in the n-th region
+abbrev nth-word : ℕ → List Region → Word → ℕ → Word
+nth-word n [] w k = w
+nth-word zero (r ∷ l) w k = w
+nth-word (suc n) (r ∷ l) w k = nth-word n l (r .word (k - r .from)) k
+
+found : (n : ℕ) (l : List Region) (w : Word) (k : ℕ) → Begun n l k → word-in l w k ≡ nth-word n l w k
+unfolding word-in
+found n [] w k h = refl
+found zero (r ∷ l) w k h = rw (lt-ltb k (r .from) h, word-in)
+found (suc n) (r ∷ l) w k h = rw (le-ltb k (r .from) (h .0), word-in) (found n l (r .word (k - r .from)) k (h .1))
 
 ap₃ : (f : ℕ → ℕ → ℕ → Word) {a b c x y z : ℕ} → a ≡ x → b ≡ y → c ≡ z → f a b c ≡ f x y z
 ap₃ f p q r = λ t. f (p t) (q t) (r t)
@@ -50,22 +62,23 @@ either : (P : Word → Type 0) (t : Bool) {a b : Word} → (t ≡ true → P a) 
 either P true f g = f refl
 either P false f g = g refl
 
+-- the region of each word
 pub word-at-address : (w : Word) → Below16 (word-numbers w) → word-at (address w) ≡ w
 unfolding word-at
-word-at-address enrolled-issuers h = refl
-word-at-address (trusted i) h = simp (word-at, past (trusted i) trusted-at (omega arith), before (trusted i) users-at (omega arith)) (ap trusted (omega arith))
-word-at-address (users i) h = simp (word-at, past (users i) users-at (omega arith), before (users i) roles-at (omega arith)) (ap users (omega arith))
-word-at-address (roles i) h = simp (word-at, past (roles i) roles-at (omega arith), before (roles i) permissions-at (omega arith)) (ap roles (omega arith))
-word-at-address (permissions i) h = simp (word-at, past (permissions i) permissions-at (omega arith), before (permissions i) held-at (omega arith)) (ap permissions (omega arith))
-word-at-address (held i u) h = simp (word-at, past (held i u) held-at (omega arith), before (held i u) holders-at (omega arith)) (ap₂ held (omega arith) (omega arith))
-word-at-address (holders j p i) h = simp (word-at, past (holders j p i) holders-at (omega arith), before (holders j p i) seniors-at (omega arith)) (ap₃ holders (omega arith) (omega arith) (omega arith))
-word-at-address (seniors j q i) h = simp (word-at, past (seniors j q i) seniors-at (omega arith), before (seniors j q i) sessions-at (omega arith)) (ap₃ seniors (omega arith) (omega arith) (omega arith))
+word-at-address enrolled-issuers h = found 0 regions enrolled-issuers _ (omega arith)
+word-at-address (trusted i) h = found 1 regions enrolled-issuers _ (omega arith) ∙ ap trusted (omega arith)
+word-at-address (users i) h = found 2 regions enrolled-issuers _ (omega arith) ∙ ap users (omega arith)
+word-at-address (roles i) h = found 3 regions enrolled-issuers _ (omega arith) ∙ ap roles (omega arith)
+word-at-address (permissions i) h = found 4 regions enrolled-issuers _ (omega arith) ∙ ap permissions (omega arith)
+word-at-address (held i u) h = found 5 regions enrolled-issuers _ (omega arith) ∙ ap₂ held (omega arith) (omega arith)
+word-at-address (holders j p i) h = found 6 regions enrolled-issuers _ (omega arith) ∙ ap₃ holders (omega arith) (omega arith) (omega arith)
+word-at-address (seniors j q i) h = found 7 regions enrolled-issuers _ (omega arith) ∙ ap₃ seniors (omega arith) (omega arith) (omega arith)
 word-at-address (session-user i s) h =
-    simp (word-at, past (session-user i s) sessions-at (omega arith))
-    (either (λ w. w ≡ session-user i s) (eqb ((address (session-user i s) - sessions-at) % 2) 0) (λ e. ap₂ session-user (omega arith) (omega arith)) (λ e. absurd (omega tests)))
+    found 8 regions enrolled-issuers _ (omega arith)
+    ∙ either (λ w. w ≡ session-user i s) (eqb ((address (session-user i s) - sessions-at) % 2) 0) (λ e. ap₂ session-user (omega arith) (omega arith)) (λ e. absurd (omega tests))
 word-at-address (active-roles i s) h =
-    simp (word-at, past (active-roles i s) sessions-at (omega arith))
-    (either (λ w. w ≡ active-roles i s) (eqb ((address (active-roles i s) - sessions-at) % 2) 0) (λ e. absurd (omega tests)) (λ e. ap₂ active-roles (omega arith) (omega arith)))
+    found 8 regions enrolled-issuers _ (omega arith)
+    ∙ either (λ w. w ≡ active-roles i s) (eqb ((address (active-roles i s) - sessions-at) % 2) 0) (λ e. absurd (omega tests)) (λ e. ap₂ active-roles (omega arith) (omega arith))
 
 -- w has the address k, and numbers below 16
 record At (k : ℕ) (w : Word) : Type 0 where
@@ -73,9 +86,9 @@ record At (k : ℕ) (w : Word) : Type 0 where
   numbered : Below16 (word-numbers w)
 
 -- range by range
-placed : (k : ℕ) → k < state-length → At k (word-at k)
-unfolding word-at
-placed k l =
+located : (k : ℕ) → k < state-length → At k (word-at k)
+unfolding word-at word-in
+located k l =
     either (At k) (ltb k trusted-at) (omega tests) λ h. either (At k) (ltb k users-at) (omega tests) λ h.
     either (At k) (ltb k roles-at) (omega tests) λ h. either (At k) (ltb k permissions-at) (omega tests) λ h.
     either (At k) (ltb k held-at) (omega tests) λ h. either (At k) (ltb k holders-at) (omega tests) λ h.
@@ -83,7 +96,7 @@ placed k l =
     either (At k) (eqb ((k - sessions-at) % 2) 0) (omega tests) (omega tests)
 
 pub address-word-at : (k : ℕ) → k < state-length → address (word-at k) ≡ k
-address-word-at k l = (placed k l) .its-address
+address-word-at k l = (located k l) .its-address
 
 pub word-at-numbered : (k : ℕ) → k < state-length → Below16 (word-numbers (word-at k))
-word-at-numbered k l = (placed k l) .numbered
+word-at-numbered k l = (located k l) .numbered

@@ -5,15 +5,18 @@ use mathlib.Core.List.{List, [], _∷_}
 use mathlib.Core.Bool.{true, false, decide}
 use Prim.Native.Nat.{ℕ}
 use native.Mathlib.Decide.{ℕ-discrete}
+use native.Mathlib.Omega.{arith}
+use lib.ListN.{getD}
 use Rattle.bits.specs.Below.{any-below, find-below}
+use Rattle.bits.specs.Bit.{pack}
 use Rattle.bits.proofs.Booleans.{clash}
-use Rattle.mtas.specs.Fact.{attached, opened, same, numbers, above-15}
+use Rattle.mtas.specs.Fact.{role, attached, opened, same, numbers, above-15}
 use Rattle.mtas.specs.Needs.{needs}
 use Rattle.mtas.specs.State.{State, nothing, listed, put, cut}
 use Rattle.mtas.specs.Hierarchy.{within}
 use Rattle.mtas.specs.Law.{In, here, there, Lawful}
 use Rattle.mtas.specs.Answer.{first-cause, outcome, leads-to, may-use, answer, next}
-use Rattle.mtas.specs.Layout.{encode}
+use Rattle.mtas.specs.Layout.{word-in, word-at, encode}
 use Rattle.mtas.specs.Record.{decode}
 use Rattle.mtas.specs.Monitor.{answered, state-after}
 use Rattle.mtas.specs.Histories.{History, final}
@@ -21,7 +24,7 @@ use Rattle.mtas.specs.Cases.{S-facts, S, Case, try, twelve-cases, furthe
 use Rattle.mtas.proofs.Facts.{All, all-in, put-new, put-cases, below-16}
 use Rattle.mtas.proofs.Law.{nothing-lawful, put-lawful, put-acyclic}
 use Rattle.mtas.proofs.Step.{differ}
-use Rattle.mtas.proofs.Words.{view-encode}
+use Rattle.mtas.proofs.Words.{encode-at, view-encode}
 use Rattle.mtas.proofs.Monitor.{monitor-encode, state-after-lawful}
 
 -- each fact of S has what it needs in S
@@ -70,11 +73,11 @@ final-is [] st L = refl
 final-is (b ∷ h) st L = rw (monitor-encode st L b) (final-is h (state-after st (decode b)) (state-after-lawful st L (decode b)))
 
 abbrev OnStates : Case → Type 0
-OnStates (try earlier b refusal verdict gone) =
-    (answered (after-all S earlier) (decode b) ≡ record { refusal = refusal; verdict = verdict }) × NoneStand (after-all S earlier) gone
+OnStates (try earlier b a gone) =
+    (answered (after-all S earlier) (decode b) ≡ a) × NoneStand (after-all S earlier) gone
 
 carried : (c : Case) → OnStates c → Holds c
-carried (try earlier b refusal verdict gone) (a, n) =
+carried (try earlier b _ gone) (a, n) =
     let L = after-lawful earlier S S-lawful in
     rw (final-is earlier S S-lawful) (ap (λ r. r .answer) (monitor-encode (after-all S earlier) L b) ∙ a, rw (view-encode (after-all S earlier) L) n)
 
@@ -99,3 +102,29 @@ further = ((refl, (refl, tt)), ((refl, (refl, tt)), ((refl, (refl, tt)), ((refl,
 
 pub further-hold : Every further-cases
 further-hold = every further-cases further
+
+-- ---- where the words of S stand, by their numbers; and those of its two links
+abbrev At : State → ℕ → ℕ → Type 0
+At st k x = getD (encode st) k 0 ≡ x
+
+pub S-words : At S 0 3 × At S 1 3 × At S 2 2 × At S 17 8 × At S 33 12 × At S 50 32 × At S 68 4 × At S 657 4 × At S 8521 3 × At S 8522 4
+unfolding word-at word-in pack put listed same decide ℕ-discrete find-below
+S-words = (
+  encode-at S 0 (omega arith),
+  encode-at S 1 (omega arith),
+  encode-at S 2 (omega arith),
+  encode-at S 17 (omega arith),
+  encode-at S 33 (omega arith),
+  encode-at S 50 (omega arith),
+  encode-at S 68 (omega arith),
+  encode-at S 657 (omega arith),
+  encode-at S 8521 (omega arith),
+  encode-at S 8522 (omega arith),
+)
+
+abbrev linked : State
+linked = put (role 1 6 ∷ attached 0 3 0 2 ∷ attached 1 6 0 3 ∷ []) S
+
+pub link-words : At linked 34 64 × At linked 4465 4 × At linked 4769 8
+unfolding word-at word-in pack put listed same decide ℕ-discrete find-below
+link-words = (encode-at linked 34 (omega arith), encode-at linked 4465 (omega arith), encode-at linked 4769 (omega arith))

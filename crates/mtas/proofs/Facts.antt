@@ -21,7 +21,7 @@ same-true {f} {g} h = go (Fact-discrete ℕ-discrete f g) h
     go (yes p) e = p
     go (no q) e = absurd (clash e refl)
 
-same-refl : (f : Fact) → same f f ≡ true
+pub same-refl : (f : Fact) → same f f ≡ true
 unfolding same decide
 same-refl f = go (Fact-discrete ℕ-discrete f f)
   where
@@ -29,7 +29,7 @@ same-refl f = go (Fact-discrete ℕ-discrete f f)
     go (yes p) = refl
     go (no q) = absurd (q refl)
 
-pub in-listed : {f : Fact} {l : List Fact} → In f l → listed l f ≡ true
+in-listed : {f : Fact} {l : List Fact} → In f l → listed l f ≡ true
 unfolding listed
 in-listed {f} (here {l}) = rw (same-refl f, listed)
 in-listed {f} (there {g} {l} m) = go (in-listed m) (same f g) refl
@@ -38,7 +38,7 @@ in-listed {f} (there {g} {l} m) = go (in-listed m) (same f g) refl
     go rec true e = rw (e, listed)
     go rec false e = rw (e, listed) rec
 
-pub listed-in : (l : List Fact) {f : Fact} → listed l f ≡ true → In f l
+listed-in : (l : List Fact) {f : Fact} → listed l f ≡ true → In f l
 unfolding listed
 listed-in [] h = absurd (clash h refl)
 listed-in (g ∷ l) {f} h = go (λ k. listed-in l {f = f} k) (same f g) refl
@@ -103,6 +103,15 @@ put-cases l st g h = go (listed l g) refl
 pub put-other : (l : List Fact) (st : State) (g : Fact) → (In g l → ⊥) → (put l st) .stands g ≡ st .stands g
 unfolding put
 put-other l st g n = rw (untrue (listed l g) (λ e. n (listed-in l e)), put)
+
+-- one fact more
+pub put-more : (f : Fact) (l : List Fact) (st : State) → put (f ∷ []) (put l st) ≡ put (f ∷ l) st
+unfolding put listed
+put-more f l st = λ t. record { stands = λ g. go g (same g f) refl t }
+  where
+    go : (g : Fact) (b : Bool) → same g f ≡ b → (put (f ∷ []) (put l st)) .stands g ≡ (put (f ∷ l) st) .stands g
+    go g true e = rw (e, put, listed)
+    go g false e = rw (e, put, listed)
 
 pub cut-gone : (f : Fact) (st : State) (g : Fact) → In f (roots g) → (cut f st) .stands g ≡ false
 unfolding cut

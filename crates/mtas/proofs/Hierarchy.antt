@@ -16,7 +16,7 @@ then p itself = p
 then p (down q h) = down (then p q) h
 
 -- with fewer links less is reached, and no circle closes
-pub fewer-links : {e e' : Graph} → ((a b : Role) → e' a b ≡ true → e a b ≡ true) → {a b : Role} → Reaches e' a b → Reaches e a b
+fewer-links : {e e' : Graph} → ((a b : Role) → e' a b ≡ true → e a b ≡ true) → {a b : Role} → Reaches e' a b → Reaches e a b
 fewer-links s itself = itself
 fewer-links s (down {b} {c} p h) = down (fewer-links s p) (s b c h)
 
@@ -55,7 +55,7 @@ same-role-true a b h =
 same-role-refl : (a : Role) → same-role a a ≡ true
 same-role-refl a = simp (eq-eqb (a .issuer) (a .issuer) refl, eq-eqb (a .number) (a .number) refl)
 
-nth-role-of : (a : Role) → a .issuer < 16 → a .number < 16 → nth-role (a .issuer * 16 + a .number) ≡ a
+pub nth-role-of : (a : Role) → a .issuer < 16 → a .number < 16 → nth-role (a .issuer * 16 + a .number) ≡ a
 nth-role-of a h k =
     let i : (a .issuer * 16 + a .number) / 16 ≡ a .issuer = omega arith in
     let n : (a .issuer * 16 + a .number) % 16 ≡ a .number = omega arith in

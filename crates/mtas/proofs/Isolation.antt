@@ -4,17 +4,18 @@ use mathlib.Core.Logic.{_⊎_, inl, inr, _≢_}
 use mathlib.Core.Bool.{Bool, true, false}
 use Prim.Native.Nat.{ℕ}
 use lib.Dec.{eqb}
-use borrow.Author.Tests.{eq-eqb, eqb-true, ne-eqb, not-false}
+use borrow.Author.Tests.{eq-eqb, eqb-true, ne-eqb}
 use Rattle.bits.proofs.Booleans.{clash, untrue, same-test}
 use Rattle.mtas.specs.Fact.{Fact, enrolled, trusts, user, role, permission, holds, granted, attached, opened, active}
 use Rattle.mtas.specs.State.{State, nothing, user-of}
-use Rattle.mtas.specs.Law.{In, here, there, Lawful}
+use Rattle.mtas.specs.Law.{In, Lawful}
 use Rattle.mtas.specs.Call.{Call, AddIssuer, RemoveIssuer, AssignTrust, RevokeTrust, AddUser, RemoveUser, AddRole, RemoveRole, AddPerm, RemovePerm, AssignUser, RevokeUser, AssignPerm, RevokePerm, AssignRH, RevokeRH, CreateSession, DeleteSession, AddActiveRole, DropActiveRole, CheckAccess}
-use Rattle.mtas.specs.Rule.{Effect, puts, cuts, decides, rule, guards, effect}
+use Rattle.mtas.specs.Rule.{Effect, puts, cuts, decides, rule}
 use Rattle.mtas.specs.Answer.{Outcome, accepted, refused, outcome, change, after, next}
+use Rattle.mtas.specs.Layout.{Word, enrolled-issuers, trusted, users, roles, permissions, held, holders, seniors, session-user, active-roles, Cell, sixteen, its-user, in-session, cell, owner}
 use Rattle.mtas.proofs.Facts.{All, all-in, roots, put-old, put-cases, cut-old, cut-other}
-use Rattle.mtas.proofs.Law.{nothing-lawful}
-use Rattle.mtas.proofs.Guards.{Clear, passed}
+use Rattle.mtas.proofs.Law.{nothing-lawful, grant-trust, link-trust}
+use Rattle.mtas.proofs.Guards.{Passed, passed}
 use Rattle.mtas.proofs.Step.{next-lawful}
 
 -- whose calls set a fact: the operator, 16, enrols, and so makes an issuer trust itself
@@ -39,13 +40,13 @@ Own c k (decides p i s) = Unit
 self-trust : (i : ℕ) → controller (trusts i i) ≡ 16
 self-trust i = rw (eq-eqb i i refl, controller)
 
-own : (st : State) (c : ℕ) (k : Call) → Clear st (guards c (rule (user-of st c) c k)) → Own c k (effect (rule (user-of st c) c k))
+own : (st : State) (c : ℕ) (k : Call) → Passed st c k → Own c k (rule (user-of st c) c k .effect)
 own st c (AddIssuer i) g =
-    let e : c ≡ 16 = eqb-true c 16 (not-false (eqb c 16) (g .0)) in
+    let e : c ≡ 16 = eqb-true c 16 (g .front .may) in
     ((sym e, λ o m x n. cc), ((self-trust i ∙ sym e, λ o m x n. absurd (n (cc))), tt))
-own st c (RemoveIssuer i) g = sym (eqb-true c 16 (not-false (eqb c 16) (g .0)))
-own st c (AssignTrust j) g = ((rw (g .1 .1 .1 .1 .0, controller), λ o m x n. cc), tt)
-own st c (RevokeTrust j) g = rw (g .1 .1 .1 .1 .0, controller)
+own st c (RemoveIssuer i) g = sym (eqb-true c 16 (g .front .may))
+own st c (AssignTrust j) g = ((rw (g .own .1 .0, controller), λ o m x n. cc), tt)
+own st c (RevokeTrust j) g = rw (g .own .1 .0, controller)
 own st c (AddUser u) g = ((refl, λ o m x n. cc), tt)
 own st c (RemoveUser u) g = refl
 own st c (AddRole r) g = ((refl, λ o m x n. cc), tt)
@@ -66,6 +67,12 @@ own st c (CheckAccess p i s) g = tt
 
 -- inside: the members, and the operator
 module _ (inside : ℕ → Bool) where
+  -- all that a word says is controlled inside
+  abbrev pub Controlled : Cell → Type 0
+  Controlled (sixteen f) = (n : ℕ) → inside (controller (f n)) ≡ true
+  Controlled (its-user i s) = inside i ≡ true
+  Controlled (in-session i s f) = (inside i ≡ true) × ((u n : ℕ) → inside (controller (f u n)) ≡ true)
+
   -- the invariant: no outsider trusts a member
   pub record Secure (st : State) : Type 0 where
     pub lawful : Lawful st
@@ -90,6 +97,19 @@ module _ (inside : ℕ → Bool) (op : inside 16 ≡ true) where
       go true e = rw (e, controller) op
       go false e = rw (e, controller) h
 
+  -- what stands in the name of someone inside is controlled inside
+  pub owned-inside : (w : Word) → inside (owner w) ≡ true → Controlled inside (cell w)
+  owned-inside enrolled-issuers h = λ n. op
+  owned-inside (trusted i) h = λ n. trust-inside i n h
+  owned-inside (users i) h = λ n. h
+  owned-inside (roles i) h = λ n. h
+  owned-inside (permissions i) h = λ n. h
+  owned-inside (held i u) h = λ n. h
+  owned-inside (holders j p i) h = λ n. h
+  owned-inside (seniors j q i) h = λ n. h
+  owned-inside (session-user i s) h = h
+  owned-inside (active-roles i s) h = (h, λ u n. h)
+
   module _ (st : State) (S : Secure inside st) where
     -- whoever trusts a member is inside
     pub trustor-inside : (i j : ℕ) → st .stands (trusts i j) ≡ true → inside j ≡ true → inside i ≡ true
@@ -111,10 +131,10 @@ module _ (inside : ℕ → Bool) (op : inside 16 ≡ true) where
     roots-inside (permission i p) h o = search self-inside
     roots-inside (holds i u r) h o = search self-inside
     roots-inside (granted j p i r) h o =
-        let t = trustor-inside i j (S .lawful .supported (granted j p i r) (trusts i j) h (there (there here))) o in
+        let t = trustor-inside i j (grant-trust st (S .lawful) h) o in
         search (self-inside, trust-inside)
     roots-inside (attached j q i r) h o =
-        let t = trustor-inside i j (S .lawful .supported (attached j q i r) (trusts i j) h (there (there here))) o in
+        let t = trustor-inside i j (link-trust st (S .lawful) h) o in
         search (self-inside, trust-inside)
     roots-inside (opened i s u) h o = search self-inside
     roots-inside (active i s u r) h o = search self-inside
@@ -135,8 +155,8 @@ module _ (inside : ℕ → Bool) (op : inside 16 ≡ true) where
     unfolding next
     outsider-unseen c k h f o = go (outcome st c k) refl
       where
-        go : (x : Outcome) → outcome st c k ≡ x → (after st (effect (rule (user-of st c) c k)) x) .stands f ≡ st .stands f
-        go accepted e = change-unseen c k (effect (rule (user-of st c) c k)) h (own st c k (passed st c k e)) f o
+        go : (x : Outcome) → outcome st c k ≡ x → (after st (rule (user-of st c) c k .effect) x) .stands f ≡ st .stands f
+        go accepted e = change-unseen c k (rule (user-of st c) c k .effect) h (own st c k (passed st c k e)) f o
         go (refused n) e = refl
 
     -- no call but kind 3 brings trust across the edge
@@ -159,8 +179,8 @@ module _ (inside : ℕ → Bool) (op : inside 16 ≡ true) where
     unfolding next
     next-secure c k q = record { lawful = next-lawful st (S .lawful) c k; apart = λ o m ho hm. go o m ho hm (outcome st c k) refl }
       where
-        go : (o m : ℕ) → inside o ≡ false → inside m ≡ true → (x : Outcome) → outcome st c k ≡ x → (after st (effect (rule (user-of st c) c k)) x) .stands (trusts o m) ≡ false
+        go : (o m : ℕ) → inside o ≡ false → inside m ≡ true → (x : Outcome) → outcome st c k ≡ x → (after st (rule (user-of st c) c k .effect) x) .stands (trusts o m) ≡ false
         go o m ho hm accepted e =
-            untrue _ (change-apart o m ho hm c k (effect (rule (user-of st c) c k)) (own st c k (passed st c k e))
+            untrue _ (change-apart o m ho hm c k (rule (user-of st c) c k .effect) (own st c k (passed st c k e))
             (λ x y. q m y (subst (λ v. inside v ≡ false) (sym x) ho) hm e))
         go o m ho hm (refused n) e = S .apart o m ho hm

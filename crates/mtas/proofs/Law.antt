@@ -5,12 +5,12 @@ use mathlib.Core.Logic.{_⊎_, inl, inr}
 use mathlib.Core.Bool.{true, false}
 use Prim.Native.Nat.{ℕ}
 use Rattle.bits.proofs.Booleans.{clash}
-use Rattle.mtas.specs.Fact.{Fact, attached, opened, numbers, Below16}
+use Rattle.mtas.specs.Fact.{Fact, trusts, granted, attached, opened, numbers, Below16}
 use Rattle.mtas.specs.Needs.{needs}
 use Rattle.mtas.specs.State.{State, nothing, put, cut}
 use Rattle.mtas.specs.Hierarchy.{Role, _#_, Reaches, Acyclic}
 use Rattle.mtas.specs.Law.{In, here, there, attachments, Lawful}
-use Rattle.mtas.proofs.Facts.{All, all-in, roots, roots-trans, in-one, put-old, put-cases, cut-old, cut-gone, cut-other}
+use Rattle.mtas.proofs.Facts.{All, all-in, roots-trans, in-one, put-old, put-cases, cut-old, cut-gone, cut-other}
 use Rattle.mtas.proofs.Hierarchy.{Numbered, fewer-acyclic, more-acyclic}
 
 -- starting is lawful
@@ -29,10 +29,12 @@ attachments-numbered st n a b h =
     (t .1 .1 .0, t .1 .1 .1 .0, t .0, t .1 .0)
 
 module _ (st : State) (L : Lawful st) where
-  -- what stands has its roots
-  pub rooted : (f g : Fact) → st .stands f ≡ true → In g (roots f) → st .stands g ≡ true
-  rooted f g h here = h
-  rooted f g h (there m) = L .supported f g h m
+  -- a link needs trust of the role's, or senior's, owner in the other
+  pub grant-trust : {j p i r : ℕ} → st .stands (granted j p i r) ≡ true → st .stands (trusts i j) ≡ true
+  grant-trust {j} {p} {i} {r} h = L .supported (granted j p i r) (trusts i j) h (there (there here))
+
+  pub link-trust : {j q i r : ℕ} → st .stands (attached j q i r) ≡ true → st .stands (trusts i j) ≡ true
+  link-trust {j} {q} {i} {r} h = L .supported (attached j q i r) (trusts i j) h (there (there here))
 
   pub cut-lawful : (f : Fact) → Lawful (cut f st)
   cut-lawful f = record {

@@ -3,33 +3,29 @@ use mathlib.Core.Path.{_≡_, refl, ap, sym, _∙_}
 use mathlib.Core.List.{List, [], _∷_}
 use mathlib.Core.Logic.{_⊎_, inl, inr}
 use mathlib.Core.Bool.{Bool, true, false, not, _&&_, _||_}
-use Prim.Native.Nat.{ℕ, zero, suc, _<_}
+use Prim.Native.Nat.{ℕ, _+_, _*_, _<_}
 use native.Mathlib.Omega.{arith}
 use lib.Dec.{eqb, ltb}
 use lib.ListN.{length, getD}
 use borrow.Author.Tests.{eqb-true, ltb-true, lt-ltb, eq-eqb, not-true}
-use Rattle.bits.proofs.Booleans.{clash, untrue, and-left, and-right, and-intro, or-cases, or-left}
+use Rattle.bits.specs.Below.{all-below}
+use Rattle.bits.specs.Bit.{bit}
+use Rattle.bits.proofs.Booleans.{clash, untrue, and-left, and-right, and-intro, or-cases, or-left, or-right}
 use Rattle.bits.proofs.Below.{all-intro, all-elim}
-use Rattle.mtas.specs.Fact.{Fact, enrolled, trusts, user, role, permission, holds, granted, attached, opened, active, numbers, Below16}
+use Rattle.mtas.specs.Fact.{Fact, numbers, Below16}
 use Rattle.mtas.specs.Needs.{needs}
 use Rattle.mtas.specs.State.{State}
-use Rattle.mtas.specs.Hierarchy.{_#_, reaches, Acyclic}
+use Rattle.mtas.specs.Hierarchy.{Role, Graph, nth-role, reaches, Acyclic}
 use Rattle.mtas.specs.Law.{In, here, there, attachments, Lawful}
-use Rattle.mtas.specs.Layout.{state-length, session-user, active-roles, read, view}
-use Rattle.mtas.specs.LawTest.{LawfulWords, SessionPair, all-of, has-needs, facts, circular, all-fours, sixteen-bit, session-pairs, lawful-facts, lawful-words}
-use Rattle.mtas.proofs.Hierarchy.{reaches-sound, reaches-complete}
+use Rattle.mtas.specs.Layout.{Word, session-user, Cell, sixteen, its-user, in-session, cell, Place, bit-of, user-in, bit-while, place, state-length, address, word-at, read, tells, view}
+use Rattle.mtas.specs.LawTest.{LawfulWords, Fits, every-word, fits, said, all-of, has-needs, no-circle, lawful-words}
+use Rattle.mtas.proofs.Hierarchy.{Numbered as Linked-numbered, nth-role-of, reaches-sound, reaches-complete}
 use Rattle.mtas.proofs.Law.{attachments-numbered}
-use Rattle.mtas.proofs.Words.{view-numbered, view-opened, wide-everywhere}
+use Rattle.mtas.proofs.Address.{word-numbers, address-below, word-at-address}
+use Rattle.mtas.proofs.Cells.{Says, said-there, PlaceNumbered, place-numbered}
+use Rattle.mtas.proofs.Words.{view-says, view-numbered, view-opened, wide-everywhere}
 
 ruleset conjuncts = (and-left, and-right)
-
-all-fours-intro : (t : ℕ → ℕ → ℕ → ℕ → Bool) → ((i j k l : ℕ) → t i j k l ≡ true) → all-fours t ≡ true
-unfolding all-fours
-all-fours-intro t h = all-intro 16 _ (λ i _. all-intro 16 _ (λ j _. all-intro 16 _ (λ k _. all-intro 16 _ (λ l _. h i j k l))))
-
-all-fours-elim : (t : ℕ → ℕ → ℕ → ℕ → Bool) → all-fours t ≡ true → (i j k l : ℕ) → i < 16 → j < 16 → k < 16 → l < 16 → t i j k l ≡ true
-unfolding all-fours
-all-fours-elim t h i j k l a b c d = all-elim 16 _ (all-elim 16 _ (all-elim 16 _ (all-elim 16 _ h i a) j b) k c) l d
 
 -- ---- lists of facts
 all-of-intro : (t : Fact → Bool) (l : List Fact) → ((f : Fact) → In f l → t f ≡ true) → all-of t l ≡ true
@@ -58,92 +54,110 @@ has-needs-elim : (st : State) (f g : Fact) → has-needs st f ≡ true → st .s
 unfolding has-needs
 has-needs-elim st f g h e m = all-of-elim (λ x. st .stands x) m (rw (e, has-needs) at h)
 
--- ---- a fact is tested with its own numbers
+-- ---- every fact that stands is said by a bit of a word
+record SaidBy (ws : List ℕ) (f : Fact) : Type 0 where
+  at : ℕ
+  number : ℕ
+  inside : at < state-length
+  low : number < 16
+  is : said ws (cell (word-at at)) number ≡ f
 
--- t at the numbers of f, and at 0 where it has fewer than four
-abbrev at-numbers : {A : Type 0} → (ℕ → ℕ → ℕ → ℕ → A) → Fact → A
-at-numbers t f = t (getD (numbers f) 0 0) (getD (numbers f) 1 0) (getD (numbers f) 2 0) (getD (numbers f) 3 0)
-
-number-below : (l : List ℕ) → Below16 l → (n : ℕ) → getD l n 0 < 16
-number-below [] h n = omega arith
-number-below (x ∷ l) h zero = h .0
-number-below (x ∷ l) h (suc n) = number-below l (h .1) n
-
-in-facts : (f : Fact) → In f (at-numbers facts f)
-in-facts (enrolled i) = here
-in-facts (trusts i j) = search (here, there)
-in-facts (user i u) = search (here, there)
-in-facts (role i r) = search (here, there)
-in-facts (permission i p) = search (here, there)
-in-facts (holds i u r) = search (here, there) depth 10
-in-facts (granted j p i r) = search (here, there) depth 10
-in-facts (attached j q i r) = search (here, there) depth 10
-in-facts (opened i s u) = search (here, there) depth 10
-in-facts (active i s u r) = search (here, there) depth 10
-
-module _ (st : State) (numbered : (f : Fact) → st .stands f ≡ true → Below16 (numbers f)) (h : lawful-facts st ≡ true) where
-  tested : (f : Fact) → st .stands f ≡ true → (all-of (has-needs st) (at-numbers facts f) ≡ true) × (not (at-numbers (circular st) f) ≡ true)
-  unfolding lawful-facts
-  tested f e =
-      let b = number-below (numbers f) (numbered f e) in
-      let t = all-fours-elim _ h _ _ _ _ (b 0) (b 1) (b 2) (b 3) in
-      search conjuncts
-
-  tested-supported : (f g : Fact) → st .stands f ≡ true → In g (needs f) → st .stands g ≡ true
-  tested-supported f g e m = has-needs-elim st f g (all-of-elim (has-needs st) (in-facts f) ((tested f e) .0)) e m
-
-  tested-acyclic : Acyclic (attachments st)
-  unfolding Acyclic
-  tested-acyclic a b e p =
-      let c = not-true _ ((tested (attached (b .issuer) (b .number) (a .issuer) (a .number)) e) .1) in
-      let r = reaches-complete (attachments st) (attachments-numbered st numbered) p in
-      clash (and-intro (attachments st a b) (reaches (attachments st) b a) e r) c
-
-lawful-tested : (st : State) → Lawful st → lawful-facts st ≡ true
-unfolding lawful-facts Acyclic
-lawful-tested st L = all-fours-intro _ (λ i j k l. and-intro (all-of (has-needs st) (facts i j k l)) (not (circular st i j k l)) (supported (facts i j k l)) (clear i j k l))
+said-by : (ws : List ℕ) (f : Fact) → (view ws) .stands f ≡ true → SaidBy ws f
+said-by ws f h = go (place f) (said-there f) (place-numbered f .0 below) (sym (view-says ws f below) ∙ h)
   where
-    supported : (l : List Fact) → all-of (has-needs st) l ≡ true
-    supported l = all-of-intro (has-needs st) l (λ f _. has-needs-intro st L f)
+    below : Below16 (numbers f)
+    below = view-numbered ws f h
 
-    clear : (j q i r : ℕ) → not (circular st j q i r) ≡ true
-    clear j q i r = ap not (untrue (circular st j q i r) (λ e. L .acyclic (i # r) (j # q) (search conjuncts) (reaches-sound (attachments st) (j # q) (i # r) (search conjuncts))))
+    at-word : (w : Word) (n : ℕ) → Below16 (word-numbers w) → n < 16 → said ws (cell w) n ≡ f → SaidBy ws f
+    at-word w n b l e = record { at = address w; number = n; inside = address-below w b; low = l; is = ap (λ x. said ws (cell x) n) (word-at-address w b) ∙ e }
+
+    go : (p : Place) → Says p f → PlaceNumbered p → tells ws p ≡ true → SaidBy ws f
+    go (bit-of w n) (g, e, q) (b, l) t = at-word w n b l (ap (λ c. said ws c n) e ∙ sym q)
+    go (user-in i s u) q (li, ls, lu) t = at-word (session-user i s) u (li, (ls, tt)) lu (sym q)
+    go (bit-while i s u w n) (g, e, q, m) (li, ls, lu, b, l) t =
+        let r = eqb-true (read ws (session-user i s)) u (and-left (eqb (read ws (session-user i s)) u) (bit (read ws w) n) t) in
+        at-word w n b l (ap (λ c. said ws c n) e ∙ ap (λ x. g x n) r ∙ sym q)
+
+-- ---- circles
+no-circle-sound : (below : Graph) → Linked-numbered below → no-circle below ≡ true → Acyclic below
+unfolding no-circle Acyclic
+no-circle-sound below n h a b e p =
+    let (ai, an, bi, bn) = n a b e in
+    let t = all-elim 256 _ (all-elim 256 _ h (place-of a) (omega arith)) (place-of b) (omega arith) in
+    let c = not-true _ (rw (nth-role-of a ai an, nth-role-of b bi bn) at t) in
+    clash (and-intro (below a b) (reaches below b a) e (reaches-complete below n p)) c
+  where
+    place-of : Role → ℕ
+    place-of x = x .issuer * 16 + x .number
+
+no-circle-complete : (below : Graph) → Acyclic below → no-circle below ≡ true
+unfolding no-circle Acyclic
+no-circle-complete below ac =
+    all-intro 256 _ (λ a _. all-intro 256 _ (λ b _. ap not (untrue _ (none (nth-role a) (nth-role b)))))
+  where
+    none : (a b : Role) → below a b && reaches below b a ≡ true → ⊥
+    none a b e = ac a b (search conjuncts) (reaches-sound below b a (search conjuncts))
+
+-- ---- the sorts of cell
+fits-sound : (ws : List ℕ) (c : Cell) (x : ℕ) → fits ws c x ≡ true → Fits ws c x
+fits-sound ws (sixteen f) x h = tt
+fits-sound ws (its-user i s) x h = go (or-cases (ltb x 16) (eqb x 65535) h)
+  where
+    go : (ltb x 16 ≡ true) ⊎ (eqb x 65535 ≡ true) → (x < 16) ⊎ (x ≡ 65535)
+    go (inl e) = inl (ltb-true x 16 e)
+    go (inr e) = inr (eqb-true x 65535 e)
+fits-sound ws (in-session i s f) x h = λ q. go q (or-cases (not (eqb (read ws (session-user i s)) 65535)) (eqb x 0) h)
+  where
+    go : read ws (session-user i s) ≡ 65535 → (not (eqb (read ws (session-user i s)) 65535) ≡ true) ⊎ (eqb x 0 ≡ true) → x ≡ 0
+    go q (inl e) = absurd (clash (eq-eqb _ _ q) (not-true _ e))
+    go q (inr e) = eqb-true x 0 e
+
+fits-complete : (ws : List ℕ) (c : Cell) (x : ℕ) → Fits ws c x → fits ws c x ≡ true
+fits-complete ws (sixteen f) x h = refl
+fits-complete ws (its-user i s) x (inl l) = or-left (ltb x 16) (eqb x 65535) (lt-ltb x 16 l)
+fits-complete ws (its-user i s) x (inr e) = or-right (ltb x 16) (eqb x 65535) (eq-eqb x 65535 e)
+fits-complete ws (in-session i s f) x h = go (eqb (read ws (session-user i s)) 65535) refl
+  where
+    go : (b : Bool) → eqb (read ws (session-user i s)) 65535 ≡ b → not b || eqb x 0 ≡ true
+    go true e = eq-eqb x 0 (h (eqb-true _ _ e))
+    go false e = refl
 
 -- ---- the whole test
-pair-elim : (w v : ℕ) → ltb w 16 || (eqb w 65535 && eqb v 0) ≡ true → SessionPair w v
-pair-elim w v h = go (or-cases (ltb w 16) (eqb w 65535 && eqb v 0) h)
-  where
-    go : (ltb w 16 ≡ true) ⊎ (eqb w 65535 && eqb v 0 ≡ true) → SessionPair w v
-    go (inl e) = inl (ltb-true w 16 e)
-    go (inr e) = inr (eqb-true w 65535 (search conjuncts), eqb-true v 0 (search conjuncts))
 
-pair-intro : (w v : ℕ) → SessionPair w v → ltb w 16 || (eqb w 65535 && eqb v 0) ≡ true
-pair-intro w v (inl l) = or-left (ltb w 16) (eqb w 65535 && eqb v 0) (lt-ltb w 16 l)
-pair-intro w v (inr e) = rw (e .0, e .1)
+-- of what words say, two conditions of the law hold by themselves
+pub view-lawful : (ws : List ℕ) → ((f g : Fact) → (view ws) .stands f ≡ true → In g (needs f) → (view ws) .stands g ≡ true) → Acyclic (attachments (view ws)) → Lawful (view ws)
+view-lawful ws s a = record {
+  supported = s;
+  numbered = view-numbered ws;
+  one-user = λ i s u v e f. sym (view-opened ws i s u e) ∙ view-opened ws i s v f;
+  acyclic = a;
+}
 
 pub lawful-words-sound : (ws : List ℕ) → lawful-words ws ≡ true → LawfulWords ws
-unfolding lawful-words sixteen-bit session-pairs
+unfolding lawful-words
 lawful-words-sound ws h =
     let len = eqb-true (length ws) state-length (search conjuncts) in
-    let bits : sixteen-bit ws ≡ true = search conjuncts in
-    let pairs : session-pairs ws ≡ true = search conjuncts in
-    let law : lawful-facts (view ws) ≡ true = search conjuncts in
+    let bits : every-word ws (λ k x. ltb x 65536) ≡ true = search conjuncts in
+    let sorts : every-word ws (λ k x. fits ws (cell (word-at k)) x) ≡ true = search conjuncts in
+    let law : every-word ws (λ k x. all-below 16 (λ n. has-needs (view ws) (said ws (cell (word-at k)) n))) ≡ true = search conjuncts in
+    let round : no-circle (attachments (view ws)) ≡ true = search conjuncts in
     record {
       long = len;
       wide = wide-everywhere ws len (λ k l. ltb-true (getD ws k 0) 65536 (all-elim state-length _ bits k l));
-      sessions = λ i s li ls. pair-elim (read ws (session-user i s)) (read ws (active-roles i s)) (all-elim 16 _ (all-elim 16 _ pairs i li) s ls);
-      lawful = record {
-        supported = tested-supported (view ws) (view-numbered ws) law;
-        numbered = view-numbered ws;
-        one-user = λ i s u v e f. sym (view-opened ws i s u e) ∙ view-opened ws i s v f;
-        acyclic = tested-acyclic (view ws) (view-numbered ws) law;
-      };
+      fit = λ k l. fits-sound ws (cell (word-at k)) (getD ws k 0) (all-elim state-length _ sorts k l);
+      lawful = view-lawful ws
+          (λ f g e m.
+          let b = said-by ws f e in
+          has-needs-elim (view ws) f g (rw (b .is) at (all-elim 16 _ (all-elim state-length _ law (b .at) (b .inside)) (b .number) (b .low))) e m)
+          (no-circle-sound (attachments (view ws)) (attachments-numbered (view ws) (view-numbered ws)) round);
     }
 
 pub lawful-words-complete : (ws : List ℕ) → LawfulWords ws → lawful-words ws ≡ true
-unfolding lawful-words sixteen-bit session-pairs
+unfolding lawful-words
 lawful-words-complete ws h =
     let long = eq-eqb (length ws) state-length (h .long) in
-    let bits : sixteen-bit ws ≡ true = all-intro state-length _ (λ k _. lt-ltb (getD ws k 0) 65536 (h .wide k)) in
-    let pairs : session-pairs ws ≡ true = all-intro 16 _ (λ i li. all-intro 16 _ (λ s ls. pair-intro (read ws (session-user i s)) (read ws (active-roles i s)) (h .sessions i s li ls))) in
-    rw (long, bits, pairs, lawful-tested (view ws) (h .lawful))
+    let bits : every-word ws (λ k x. ltb x 65536) ≡ true = all-intro state-length _ (λ k _. lt-ltb (getD ws k 0) 65536 (h .wide k)) in
+    let sorts : every-word ws (λ k x. fits ws (cell (word-at k)) x) ≡ true = all-intro state-length _ (λ k l. fits-complete ws (cell (word-at k)) (getD ws k 0) (h .fit k l)) in
+    let law : every-word ws (λ k x. all-below 16 (λ n. has-needs (view ws) (said ws (cell (word-at k)) n))) ≡ true =
+    all-intro state-length _ (λ k _. all-intro 16 _ (λ n _. has-needs-intro (view ws) (h .lawful) _)) in
+    rw (long, bits, sorts, law, no-circle-complete (attachments (view ws)) (h .lawful .acyclic))

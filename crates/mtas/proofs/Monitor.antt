@@ -1,4 +1,4 @@
--- The monitor on words is the table on the state that they say; a refusal hands the words back; verdict 1 is demand 2's.
+-- The monitor on words is the table on the state that they say, and a refusal hands the words back.
 use mathlib.Core.Path.{_≡_, refl, ap, _∙_, fun-ext}
 use mathlib.Core.Logic.{_⊎_, inl, inr}
 use mathlib.Core.List.{List}
@@ -13,7 +13,7 @@ use Rattle.mtas.specs.State.{State, nothing}
 use Rattle.mtas.specs.Law.{Lawful}
 use Rattle.mtas.specs.Call.{Call}
 use Rattle.mtas.specs.Answer.{Outcome, accepted, refused, outcome, answer, next}
-use Rattle.mtas.specs.Layout.{Word, enrolled-issuers, trusted, users, roles, permissions, held, holders, seniors, session-user, active-roles, state-length, word-at, contents, encode, view}
+use Rattle.mtas.specs.Layout.{Cell, sixteen, its-user, in-session, cell, state-length, word-at, contents, encode, view}
 use Rattle.mtas.specs.LawTest.{LawfulWords, lawful-words}
 use Rattle.mtas.specs.Record.{Request, undecodable, request, decode}
 use Rattle.mtas.specs.Monitor.{turned-down, initial, initial-words, answered, state-after, monitor}
@@ -23,22 +23,15 @@ use Rattle.mtas.proofs.Words.{view-encode, encode-view, encode-lawful}
 use Rattle.mtas.proofs.LawTest.{lawful-words-sound, lawful-words-complete}
 
 -- starting writes the words of the state in which nothing stands
-initial-contents : (w : Word) → initial w ≡ contents nothing w
+initial-contents : (c : Cell) → initial c ≡ contents nothing c
 unfolding pack find-below
-initial-contents enrolled-issuers = refl
-initial-contents (trusted i) = refl
-initial-contents (users i) = refl
-initial-contents (roles i) = refl
-initial-contents (permissions i) = refl
-initial-contents (held i u) = refl
-initial-contents (holders j p i) = refl
-initial-contents (seniors j q i) = refl
-initial-contents (session-user i s) = refl
-initial-contents (active-roles i s) = refl
+initial-contents (sixteen f) = refl
+initial-contents (its-user i s) = refl
+initial-contents (in-session i s f) = refl
 
 pub initial-is-nothing : initial-words ≡ encode nothing
 unfolding initial-words encode
-initial-is-nothing = ap (tabulate state-length) (fun-ext (λ k. initial-contents (word-at k)))
+initial-is-nothing = ap (tabulate state-length) (fun-ext (λ k. initial-contents (cell (word-at k))))
 
 pub initial-lawful : LawfulWords initial-words
 initial-lawful = rw initial-is-nothing (encode-lawful nothing nothing-lawful)

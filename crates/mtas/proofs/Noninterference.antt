@@ -10,25 +10,22 @@ use borrow.Author.Tests.{eqb-true, lt-ltb}
 use Rattle.bits.specs.Bit.{bit}
 use Rattle.bits.proofs.Booleans.{clash, and-right, and-intro, or-cases, or-right}
 use Rattle.bits.proofs.Bit.{bit-pack, pack-ext}
-use Rattle.mtas.specs.Fact.{Fact, enrolled, trusts, user, role, permission, holds, granted, attached, active, Below16}
-use Rattle.mtas.specs.State.{State, nothing, user-of}
+use Rattle.mtas.specs.Fact.{Fact, enrolled}
+use Rattle.mtas.specs.State.{State, nothing, packed, user-of}
 use Rattle.mtas.specs.Law.{Lawful}
 use Rattle.mtas.specs.Call.{Call, AssignTrust}
-use Rattle.mtas.specs.Rule.{rule, guards}
-use Rattle.mtas.specs.Answer.{accepted, outcome, answer}
-use Rattle.mtas.specs.Decision.{MayUse}
-use Rattle.mtas.specs.Layout.{Word, enrolled-issuers, trusted, users, roles, permissions, held, holders, seniors, session-user, active-roles, packed, contents, encode, read, view}
+use Rattle.mtas.specs.Answer.{accepted, outcome}
+use Rattle.mtas.specs.Decision.{MayUsePermission}
+use Rattle.mtas.specs.Layout.{enrolled-issuers, Cell, sixteen, its-user, in-session, cell, word-at, contents, encode, view}
 use Rattle.mtas.specs.Record.{Request, undecodable, request, decode, inside, remains}
 use Rattle.mtas.specs.Monitor.{initial-words, answered, state-after, monitor}
 use Rattle.mtas.specs.Histories.{History, final, purge, answers, TrustRefused, NoTrustIn, SameInName, Noninterference}
-use Rattle.mtas.proofs.Facts.{below-16}
-use Rattle.mtas.proofs.Guards.{Clear, passed}
-use Rattle.mtas.proofs.Decision.{may-use-iff}
-use Rattle.mtas.proofs.Address.{word-numbers}
-use Rattle.mtas.proofs.Words.{read-encode, view-encode}
+use Rattle.mtas.proofs.Guards.{Passed, passed}
+use Rattle.mtas.proofs.Decision.{decision-iff}
+use Rattle.mtas.proofs.Words.{encode-at, read-encode, view-encode}
 use Rattle.mtas.proofs.Monitor.{initial-is-nothing, monitor-encode, accepted-zero}
-use Rattle.mtas.proofs.Isolation.{controller, Secure, nothing-secure, Agree, Calm, trust-inside, outsider-unseen, next-secure}
-use Rattle.mtas.proofs.Unwinding.{user-same, may-use-same, answer-same, next-agrees}
+use Rattle.mtas.proofs.Isolation.{controller, Controlled, owned-inside, Secure, nothing-secure, Agree, Calm, outsider-unseen, next-secure}
+use Rattle.mtas.proofs.Unwinding.{user-same, decision-same, answer-same, next-agrees}
 
 module _ (member : ℕ → Bool) where
   abbrev ins : ℕ → Bool
@@ -36,12 +33,12 @@ module _ (member : ℕ → Bool) where
 
   -- the premise on answers is the one on outcomes
   calm : (st : State) → Lawful st → (b : List ℕ) → TrustRefused member (encode st) b → (c : ℕ) (k : Call) → decode b ≡ request c k → Calm ins st c k
-  calm st L b q c k d j e ho hj a = go (below-16 (j ∷ []) (g .1 .1 .0) .0) (or-cases (eqb j 16) (ltb j 16 && member j) hj)
+  calm st L b q c k d j e ho hj a = go (g .front .small .0) (or-cases (eqb j 16) (ltb j 16 && member j) hj)
     where
       a' : outcome st c (AssignTrust j) ≡ accepted
       a' = subst (λ x. outcome st c x ≡ accepted) e a
 
-      g : Clear st (guards c (rule (user-of st c) c (AssignTrust j)))
+      g : Passed st c (AssignTrust j)
       g = passed st c (AssignTrust j) a'
 
       told : ((monitor (encode st) b) .answer) .refusal ≡ 0
@@ -63,7 +60,7 @@ module _ (member : ℕ → Bool) where
     agree : Agree ins left right
 
   -- one record: outsiders' change nothing seen, those inside are answered alike
-  module _ (st st' : State) (S : Secure ins st) (S' : Secure ins st') (A : Agree ins st st') (b : List ℕ) where
+  module _ (st st' : State) (S : Secure ins st) (S' : Secure ins st') (A : Agree ins st st') where
     abbrev Goes : Request → Request → Type 0
     Goes x y = Secure ins (state-after st x) × Secure ins (state-after st' y) × Agree ins (state-after st x) (state-after st' y)
 
@@ -104,7 +101,7 @@ module _ (member : ℕ → Bool) where
       go : ((x x' : State) → Secure ins x → Secure ins x' → Agree ins x x' → NoTrustIn member (encode x) h → Twins (encode x) (encode x') h (purge member h))
           → (r : Bool) → remains member (decode b) ≡ r → Twins (encode st) (encode st') (b ∷ h) (purge member (b ∷ h))
       go rec true e =
-          let s = inside-step st st' S S' A b (decode b) e (calm st (S .lawful) b (q .0)) in
+          let s = inside-step st st' S S' A (decode b) e (calm st (S .lawful) b (q .0)) in
           let t : Twins (encode (state-after st (decode b))) (encode (state-after st' (decode b))) h (purge member h) = rec (state-after st (decode b)) (state-after st' (decode b)) (s .1 .0) (s .1 .1) (s .1 .2) q' in
           rw (e, purge) (record {
             same-answers = rw (e, answers) (rw (m, m') (ap₂ _∷_ (s .0) (t .same-answers)));
@@ -117,7 +114,7 @@ module _ (member : ℕ → Bool) where
             agree = t .agree;
           })
       go rec false e =
-          let s = outside-step st st' S S' A b (decode b) e (calm st (S .lawful) b (q .0)) in
+          let s = outside-step st st' S S' A (decode b) e (calm st (S .lawful) b (q .0)) in
           let t : Twins (encode (state-after st (decode b))) (encode st') h (purge member h) = rec (state-after st (decode b)) st' (s .0) S' (s .2) q' in
           rw (e, purge) (record {
             same-answers = rw (e, answers) (rw m (t .same-answers));
@@ -132,29 +129,21 @@ module _ (member : ℕ → Bool) where
 
   -- agreement, word by word
   module _ (st st' : State) (S : Secure ins st) (S' : Secure ins st') (A : Agree ins st st') (j : ℕ) (l : j < 16) (i : ins j ≡ true) where
-    reads : (w : Word) → Below16 (word-numbers w) → contents st w ≡ contents st' w → read (encode st) w ≡ read (encode st') w
-    reads w n e = read-encode st w n ∙ e ∙ sym (read-encode st' w n)
-
     packs : (f : ℕ → Fact) → ((n : ℕ) → ins (controller (f n)) ≡ true) → packed st f ≡ packed st' f
     packs f o = pack-ext 16 (λ n. st .stands (f n)) (λ n. st' .stands (f n)) (λ n _. A (f n) (o n))
 
-    users-same : (s : ℕ) → user-of st j s ≡ user-of st' j s
-    users-same s = user-same ins refl st st' S S' A j s i
+    same-cell : (c : Cell) → Controlled ins c → contents st c ≡ contents st' c
+    same-cell (sixteen f) o = packs f o
+    same-cell (its-user k s) o = user-same ins refl st st' S S' A k s o
+    same-cell (in-session k s f) (o, q) = let u = user-same ins refl st st' S S' A k s o in packs (f (user-of st k s)) (q (user-of st k s)) ∙ ap (λ u. packed st' (f u)) u
 
     same-in-name : SameInName j (encode st) (encode st')
     same-in-name = record {
       enrolled-bit =
           ap (λ x. bit x j) (read-encode st enrolled-issuers tt) ∙ bit-pack 16 (λ n. st .stands (enrolled n)) j l ∙ A (enrolled j) refl
           ∙ sym (ap (λ x. bit x j) (read-encode st' enrolled-issuers tt) ∙ bit-pack 16 (λ n. st' .stands (enrolled n)) j l);
-      trust-word = reads (trusted j) (l, tt) (packs (trusts j) (λ n. trust-inside ins refl j n i));
-      users-word = reads (users j) (l, tt) (packs (user j) (λ n. i));
-      roles-word = reads (roles j) (l, tt) (packs (role j) (λ n. i));
-      permissions-word = reads (permissions j) (l, tt) (packs (permission j) (λ n. i));
-      held-words = λ u lu. reads (held j u) (l, (lu, tt)) (packs (holds j u) (λ n. i));
-      session-users = λ s ls. reads (session-user j s) (l, (ls, tt)) (users-same s);
-      session-roles = λ s ls. reads (active-roles j s) (l, (ls, tt)) (packs (active j s (user-of st j s)) (λ n. i) ∙ ap (λ u. packed st' (active j s u)) (users-same s));
-      permission-words = λ p k lp lk. reads (holders j p k) (l, (lp, (lk, tt))) (packs (granted j p k) (λ n. i));
-      role-words = λ q k lq lk. reads (seniors j q k) (l, (lq, (lk, tt))) (packs (attached j q k) (λ n. i));
+      own-words = λ k m e.
+          encode-at st k m ∙ same-cell (cell (word-at k)) (owned-inside ins refl (word-at k) (rw e i)) ∙ sym (encode-at st' k m);
     }
 
   -- a member is inside
@@ -187,9 +176,9 @@ noninterference member h₁ h₂ e q₁ q₂ = record {
     agree : Agree (inside member) (t₁ .left) (t₂ .left)
     agree f o = t₁ .agree f o ∙ ap (λ x. x .stands f) purged ∙ sym (t₂ .agree f o)
 
-    decided : (j p i s : ℕ) → inside member j ≡ true → MayUse (t₁ .left) j p i s ↔ MayUse (t₂ .left) j p i s
+    decided : (j p i s : ℕ) → inside member j ≡ true → MayUsePermission (t₁ .left) j p i s ↔ MayUsePermission (t₂ .left) j p i s
     decided j p i s m =
-        let a = may-use-iff (t₁ .left) j p (t₁ .left-secure .lawful) i s in
-        let b = may-use-iff (t₂ .left) j p (t₂ .left-secure .lawful) i s in
-        let d = may-use-same (inside member) refl (t₁ .left) (t₂ .left) (t₁ .left-secure) (t₂ .left-secure) agree j p i s m in
+        let a = decision-iff (t₁ .left) (t₁ .left-secure .lawful) j p i s in
+        let b = decision-iff (t₂ .left) (t₂ .left-secure .lawful) j p i s in
+        let d = decision-same (inside member) refl (t₁ .left) (t₂ .left) (t₁ .left-secure) (t₂ .left-secure) agree j p i s m in
         (λ x. b .0 (sym d ∙ a .1 x), λ x. a .0 (d ∙ b .1 x))

@@ -1,24 +1,23 @@
 -- The unwinding's second half: in two secure states that agree, a call from inside gets one answer and leaves them agreeing.
 use mathlib.Core.Path.{_≡_, refl, ap, sym, _∙_, fun-ext}
-use mathlib.Core.List.{List, [], _∷_}
+use mathlib.Core.List.{List, [], _∷_, _++_}
 use mathlib.Core.Bool.{Bool, true, false, not, _&&_}
 use Prim.Native.Nat.{ℕ}
 use Rattle.bits.specs.Below.{any-below}
 use Rattle.bits.specs.Bit.{digit}
-use Rattle.bits.proofs.Booleans.{clash, untrue, same-test}
+use Rattle.bits.proofs.Booleans.{clash, untrue}
 use Rattle.bits.proofs.Below.{any-ext, any-both-elim, find-ext}
 use Rattle.mtas.specs.Fact.{Fact, enrolled, trusts, user, role, permission, holds, granted, attached, opened, active}
 use Rattle.mtas.specs.State.{State, user-of}
-use Rattle.mtas.specs.Hierarchy.{Role, _#_, Reaches, itself, down, reaches}
-use Rattle.mtas.specs.Law.{here, there, attachments}
-use Rattle.mtas.specs.Call.{Call, AddIssuer, RemoveIssuer, AssignTrust, RevokeTrust, AddUser, RemoveUser, AddRole, RemoveRole, AddPerm, RemovePerm, AssignUser, RevokeUser, AssignPerm, RevokePerm, AssignRH, RevokeRH, CreateSession, DeleteSession, AddActiveRole, DropActiveRole, CheckAccess}
-use Rattle.mtas.specs.Rule.{Guard, absent, present, reached, applies, Effect, puts, cuts, decides, Rule, operator's, issuer's, rule, guards, effect}
-use Rattle.mtas.specs.Answer.{Outcome, accepted, refused, first-cause, outcome, leads-to, may-use, verdict-of, change, reply, after, answer, next}
+use Rattle.mtas.specs.Hierarchy.{Role, _#_, Graph}
+use Rattle.mtas.specs.Law.{attachments, holders-of}
+use Rattle.mtas.specs.Call.{Call, AddIssuer, RemoveIssuer, AssignTrust, RevokeTrust, AddUser, RemoveUser, AddRole, RemoveRole, AddPerm, RemovePerm, AssignUser, RevokeUser, AssignPerm, RevokePerm, AssignRH, RevokeRH, CreateSession, DeleteSession, AddActiveRole, DropActiveRole, CheckAccess, arguments}
+use Rattle.mtas.specs.Rule.{Guard, absent, present, reached, applies, Effect, puts, cuts, decides, Whose, operator's, issuer's, link-causes, rule, front, guards}
+use Rattle.mtas.specs.Answer.{accepts, Outcome, accepted, refused, first-cause, outcome, leads-to, may-use, decides-on, verdict-of, change, reply, after, answer, next}
 use Rattle.mtas.proofs.Facts.{put-agree, cut-agree}
-use Rattle.mtas.proofs.Hierarchy.{reaches-sound, reaches-complete}
-use Rattle.mtas.proofs.Law.{attachments-numbered}
+use Rattle.mtas.proofs.Law.{attachments-numbered, grant-trust, link-trust}
 use Rattle.mtas.proofs.Guards.{Passes, passes}
-use Rattle.mtas.proofs.Decision.{leads-to-sound}
+use Rattle.mtas.proofs.Walks.{Carries, Twin, reaches-same, leads-same, leads-from-inside}
 use Rattle.mtas.proofs.Isolation.{controller, Secure, Agree, trust-inside, trustor-inside}
 
 -- two states try a list of guards alike: each is compared once those before it passed (case G)
@@ -35,33 +34,13 @@ alike-first st st' (g ∷ l) m = go (alike-first st st' l) (applies st g) refl
     go rec true e = let e' : applies st' g ≡ true = sym (m .0) ∙ e in rw (e, e', first-cause)
     go rec false e = let e' : applies st' g ≡ false = sym (m .0) ∙ e in rw (e, e', first-cause) (rec (m .1 (passes st g e)))
 
--- the refusals of a row from 7 on
-abbrev causes : Rule → List Guard
-causes (operator's l g e) = g
-causes (issuer's l g e) = g
-
 module _ (inside : ℕ → Bool) (op : inside 16 ≡ true) where
   -- what leads to a member's role or permission comes from inside, by links that stand in members' names
   module _ (st st' : State) (S : Secure inside st) (S' : Secure inside st') (A : Agree inside st st') where
-    from-inside : {a b : Role} → Reaches (attachments st) a b → inside (b .issuer) ≡ true → (inside (a .issuer) ≡ true) × Reaches (attachments st') a b
-    from-inside itself h = (h, itself)
-    from-inside (down {b} {c} p e) h =
-        let link = attached (c .issuer) (c .number) (b .issuer) (b .number) in
-        let t = trustor-inside inside op st S (b .issuer) (c .issuer) (S .lawful .supported link (trusts (b .issuer) (c .issuer)) e (there (there here))) h in
-        let (i, q) = from-inside p t in
-        (i, down q (sym (A link h) ∙ e))
-
-    reaches-too : (a b : Role) → inside (b .issuer) ≡ true → reaches (attachments st) a b ≡ true → reaches (attachments st') a b ≡ true
-    reaches-too a b h p =
-        reaches-complete (attachments st') (attachments-numbered st' (S' .lawful .numbered)) ((from-inside (reaches-sound (attachments st) a b p) h) .1)
-
-    holder-inside : (j p i r : ℕ) → inside j ≡ true → st .stands (granted j p i r) ≡ true → inside i ≡ true
-    holder-inside j p i r h g = trustor-inside inside op st S i j (S .lawful .supported (granted j p i r) (trusts i j) g (there (there here))) h
-
-    leads-from-inside : (j p : ℕ) (a : Role) → inside j ≡ true → leads-to st j p a ≡ true → inside (a .issuer) ≡ true
-    leads-from-inside j p a h d =
-        let (b, w, g) = leads-to-sound st j p a d in
-        (from-inside w (holder-inside j p (b .issuer) (b .number) h g)) .0
+    carries : Carries inside (attachments st) (attachments st')
+    carries a b h e =
+        let link = attached (b .issuer) (b .number) (a .issuer) (a .number) in
+        (trustor-inside inside op st S (a .issuer) (b .issuer) (link-trust st (S .lawful) e) h, sym (A link h) ∙ e)
 
     pub user-same : (i s : ℕ) → inside i ≡ true → user-of st i s ≡ user-of st' i s
     user-same i s h = find-ext 16 (λ u. st .stands (opened i s u)) (λ u. st' .stands (opened i s u)) 65535 (λ u. A (opened i s u) h)
@@ -70,37 +49,33 @@ module _ (inside : ℕ → Bool) (op : inside 16 ≡ true) where
     abbrev A' : Agree inside st' st
     A' f o = sym (A f o)
 
-    reaches-same : (a b : Role) → inside (b .issuer) ≡ true → reaches (attachments st) a b ≡ reaches (attachments st') a b
-    reaches-same a b h = same-test _ _ (reaches-too st st' S S' A a b h) (reaches-too st' st S' S A' a b h)
+    twin : (j p : ℕ) → inside j ≡ true → Twin inside (attachments st) (attachments st') (holders-of st j p) (holders-of st' j p)
+    twin j p h = record {
+      there = carries st st' S S' A;
+      back = carries st' st S' S A';
+      numbered = attachments-numbered st (S .lawful .numbered);
+      numbered' = attachments-numbered st' (S' .lawful .numbered);
+      same = λ b. A (granted j p (b .issuer) (b .number)) h;
+      only-inside = λ b g. trustor-inside inside op st S (b .issuer) j (grant-trust st (S .lawful) g) h;
+    }
 
-    leads-same : (j p : ℕ) (a : Role) → inside j ≡ true → leads-to st j p a ≡ leads-to st' j p a
-    unfolding leads-to
-    leads-same j p a h =
-        any-ext 16 (λ i. any-below 16 (λ r. leads st i r)) (λ i. any-below 16 (λ r. leads st' i r))
-        (λ i. any-ext 16 (λ r. leads st i r) (λ r. leads st' i r) (λ r. go i r (st .stands (granted j p i r)) refl))
-      where
-        leads : State → ℕ → ℕ → Bool
-        leads x i r = x .stands (granted j p i r) && reaches (attachments x) a (i # r)
-
-        go : (i r : ℕ) (b : Bool) → st .stands (granted j p i r) ≡ b
-            → (st .stands (granted j p i r) && reaches (attachments st) a (i # r)) ≡ (st' .stands (granted j p i r) && reaches (attachments st') a (i # r))
-        go i r true e = let k = A (granted j p i r) h in let q = reaches-same a (i # r) (holder-inside st st' S S' A j p i r h e) in cc
-        go i r false e = let k = A (granted j p i r) h in cc
-
-    pub may-use-same : (j p i s : ℕ) → inside j ≡ true → may-use st j p i s ≡ may-use st' j p i s
+    may-use-same : {e e' : Graph} {t t' : Role → Bool} → Twin inside e e' t t' → (i s : ℕ) → may-use st e t i s ≡ may-use st' e' t' i s
     unfolding may-use
-    may-use-same j p i s h = go (inside i) refl
+    may-use-same {e} {e'} {t} {t'} T i s = go (inside i) refl
       where
-        never : (x : State) (u : ℕ) → ((r : ℕ) → leads-to x j p (i # r) ≡ true → ⊥) → any-below 16 (λ r. x .stands (active i s u r) && leads-to x j p (i # r)) ≡ false
-        never x u n = untrue _ (λ d. let (r, l, a, w) = any-both-elim 16 (λ r. x .stands (active i s u r)) (λ r. leads-to x j p (i # r)) d in n r w)
+        never : (x : State) (u : ℕ) (f : Role → Bool) → ((r : ℕ) → f (i # r) ≡ true → ⊥) → any-below 16 (λ r. x .stands (active i s u r) && f (i # r)) ≡ false
+        never x u f n = untrue _ (λ d. let (r, l, a, w) = any-both-elim 16 (λ r. x .stands (active i s u r)) (λ r. f (i # r)) d in n r w)
 
-        go : (b : Bool) → inside i ≡ b → may-use st j p i s ≡ may-use st' j p i s
-        go true e =
-            any-ext 16 (λ r. st .stands (active i s (user-of st i s) r) && leads-to st j p (i # r)) (λ r. st' .stands (active i s (user-of st' i s) r) && leads-to st' j p (i # r))
-            (λ r. let w = user-same st st' S S' A i s e in let k = A (active i s (user-of st i s) r) e in let o = leads-same j p (i # r) h in cc)
-        go false e =
-            never st (user-of st i s) (λ r o. clash (leads-from-inside st st' S S' A j p (i # r) h o) e)
-            ∙ sym (never st' (user-of st' i s) (λ r o. clash (leads-from-inside st' st S' S A' j p (i # r) h o) e))
+        go : (b : Bool) → inside i ≡ b → may-use st e t i s ≡ may-use st' e' t' i s
+        go true h =
+            any-ext 16 (λ r. st .stands (active i s (user-of st i s) r) && leads-to e t (i # r)) (λ r. st' .stands (active i s (user-of st' i s) r) && leads-to e' t' (i # r))
+            (λ r. let w = user-same st st' S S' A i s h in let k = A (active i s (user-of st i s) r) h in let o = leads-same inside T (i # r) in cc)
+        go false h =
+            never st (user-of st i s) (leads-to e t) (λ r o. clash (leads-from-inside inside T (i # r) o) h)
+            ∙ sym (never st' (user-of st' i s) (leads-to e' t') (λ r o. clash (leads-from-inside inside T (i # r) (leads-same inside T (i # r) ∙ o)) h))
+
+    pub decision-same : (j p i s : ℕ) → inside j ≡ true → decides-on st j p i s ≡ decides-on st' j p i s
+    decision-same j p i s h = may-use-same (twin j p h) i s
 
     missing : (f : Fact) → inside (controller f) ≡ true → not (st .stands f) ≡ not (st' .stands f)
     missing f o = ap not (A f o)
@@ -114,10 +89,18 @@ module _ (inside : ℕ → Bool) (op : inside 16 ≡ true) where
         go false e = S .apart i c e h ∙ sym (S' .apart i c e h)
 
     -- the calls that name another issuer's role: beyond refusal 9 that issuer is inside
-    across : (c i : ℕ) (l : List Guard) → inside c ≡ true → (inside i ≡ true → Alike st st' l) → Alike st st' (absent 7 (enrolled i) ∷ absent 9 (trusts i c) ∷ l)
-    across c i l h k = (missing (enrolled i) op, λ _. (ap not (trust-same i c h), λ t. k (trustor-inside inside op st S i c t h)))
+    links-alike : (c i r : ℕ) (own : Fact) (l : List Guard) → inside c ≡ true → controller own ≡ c → (inside i ≡ true → Alike st st' l) → Alike st st' (link-causes c i r own l)
+    links-alike c i r own l h o k = (
+      missing (enrolled i) op,
+      λ _. (
+        ap not (trust-same i c h),
+        λ t.
+            let m = trustor-inside inside op st S i c t h in
+            (missing own (rw o h), λ _. (missing (role i r) m, λ _. k m)),
+      ),
+    )
 
-    causes-alike : (u-of : ℕ → ℕ) (c : ℕ) (k : Call) → inside c ≡ true → Alike st st' (causes (rule u-of c k))
+    causes-alike : (u-of : ℕ → ℕ) (c : ℕ) (k : Call) → inside c ≡ true → Alike st st' (rule u-of c k .causes)
     causes-alike u-of c (AddIssuer i) h = (A (enrolled i) op, λ _. tt)
     causes-alike u-of c (RemoveIssuer i) h = (missing (enrolled i) op, λ _. tt)
     causes-alike u-of c (AssignTrust j) h = (missing (enrolled j) op, λ _. (refl, λ _. (A (trusts c j) (trust-inside inside op c j h), λ _. tt)))
@@ -130,18 +113,17 @@ module _ (inside : ℕ → Bool) (op : inside 16 ≡ true) where
     causes-alike u-of c (RemovePerm p) h = (missing (permission c p) h, λ _. tt)
     causes-alike u-of c (AssignUser u r) h = (missing (user c u) h, λ _. (missing (role c r) h, λ _. (A (holds c u r) h, λ _. tt)))
     causes-alike u-of c (RevokeUser u r) h = (missing (user c u) h, λ _. (missing (role c r) h, λ _. (missing (holds c u r) h, λ _. tt)))
-    causes-alike u-of c (AssignPerm p i r) h =
-        across c i (absent 10 (permission c p) ∷ absent 10 (role i r) ∷ present 12 (granted c p i r) ∷ []) h
-        (λ m. (missing (permission c p) h, λ _. (missing (role i r) m, λ _. (A (granted c p i r) h, λ _. tt))))
-    causes-alike u-of c (RevokePerm p i r) h =
-        across c i (absent 10 (permission c p) ∷ absent 10 (role i r) ∷ absent 12 (granted c p i r) ∷ []) h
-        (λ m. (missing (permission c p) h, λ _. (missing (role i r) m, λ _. (missing (granted c p i r) h, λ _. tt))))
+    causes-alike u-of c (AssignPerm p i r) h = links-alike c i r (permission c p) (present 12 (granted c p i r) ∷ []) h refl (λ m. (A (granted c p i r) h, λ _. tt))
+    causes-alike u-of c (RevokePerm p i r) h = links-alike c i r (permission c p) (absent 12 (granted c p i r) ∷ []) h refl (λ m. (missing (granted c p i r) h, λ _. tt))
     causes-alike u-of c (AssignRH q i r) h =
-        across c i (absent 10 (role c q) ∷ absent 10 (role i r) ∷ present 12 (attached c q i r) ∷ reached 13 (c # q) (i # r) ∷ []) h
-        (λ m. (missing (role c q) h, λ _. (missing (role i r) m, λ _. (A (attached c q i r) h, λ _. (reaches-same (c # q) (i # r) m, λ _. tt)))))
-    causes-alike u-of c (RevokeRH q i r) h =
-        across c i (absent 10 (role c q) ∷ absent 10 (role i r) ∷ absent 12 (attached c q i r) ∷ []) h
-        (λ m. (missing (role c q) h, λ _. (missing (role i r) m, λ _. (missing (attached c q i r) h, λ _. tt))))
+        links-alike c i r (role c q) (present 12 (attached c q i r) ∷ reached 13 (c # q) (i # r) ∷ []) h refl (λ m. (
+          A (attached c q i r) h,
+          λ _. (
+            reaches-same inside (carries st st' S S' A) (carries st' st S' S A') (attachments-numbered st (S .lawful .numbered)) (attachments-numbered st' (S' .lawful .numbered)) (c # q) (i # r) m,
+            λ _. tt,
+          ),
+        ))
+    causes-alike u-of c (RevokeRH q i r) h = links-alike c i r (role c q) (absent 12 (attached c q i r) ∷ []) h refl (λ m. (missing (attached c q i r) h, λ _. tt))
     causes-alike u-of c (CreateSession s u) h = (missing (user c u) h, λ _. (A (opened c s (u-of s)) h, λ _. tt))
     causes-alike u-of c (DeleteSession s) h = (missing (opened c s (u-of s)) h, λ _. tt)
     causes-alike u-of c (AddActiveRole s r) h =
@@ -150,9 +132,9 @@ module _ (inside : ℕ → Bool) (op : inside 16 ≡ true) where
         (missing (role c r) h, λ _. (missing (opened c s (u-of s)) h, λ _. (missing (active c s (u-of s) r) h, λ _. tt)))
     causes-alike u-of c (CheckAccess p i s) h = (missing (permission c p) h, λ _. tt)
 
-    guards-alike : (c : ℕ) (R : Rule) → Alike st st' (causes R) → Alike st st' (guards c R)
-    guards-alike c (operator's l g e) m = (refl, λ _. (refl, λ _. m))
-    guards-alike c (issuer's l g e) m = (refl, λ _. (missing (enrolled c) op, λ _. (refl, λ _. m)))
+    front-alike : (w : Whose) (c : ℕ) (l : List ℕ) (m : List Guard) → Alike st st' m → Alike st st' (front w c l ++ m)
+    front-alike operator's c l m a = (refl, λ _. (refl, λ _. a))
+    front-alike issuer's c l m a = (refl, λ _. (missing (enrolled c) op, λ _. (refl, λ _. a)))
 
     module _ (c : ℕ) (k : Call) (h : inside c ≡ true) where
       row-same : rule (user-of st c) c k ≡ rule (user-of st' c) c k
@@ -161,21 +143,21 @@ module _ (inside : ℕ → Bool) (op : inside 16 ≡ true) where
       outcome-same : outcome st c k ≡ outcome st' c k
       unfolding outcome
       outcome-same =
-          alike-first st st' (guards c (rule (user-of st c) c k)) (guards-alike c (rule (user-of st c) c k) (causes-alike (user-of st c) c k h))
-          ∙ ap (λ R. first-cause st' (guards c R)) row-same
+          alike-first st st' (guards (user-of st c) c k) (front-alike (rule (user-of st c) c k .whose) c (arguments k) (rule (user-of st c) c k .causes) (causes-alike (user-of st c) c k h))
+          ∙ ap (λ R. first-cause st' (front (R .whose) c (arguments k) ++ R .causes)) row-same
 
       verdict-same : (e : Effect) → verdict-of st c e ≡ verdict-of st' c e
       verdict-same (puts l) = refl
       verdict-same (cuts f) = refl
-      verdict-same (decides p i s) = ap digit (may-use-same c p i s h)
+      verdict-same (decides p i s) = ap digit (decision-same c p i s h)
 
       reply-same : (e : Effect) (o : Outcome) → reply st c e o ≡ reply st' c e o
-      reply-same e accepted = ap (λ v. record { refusal = 0; verdict = v }) (verdict-same e)
+      reply-same e accepted = ap accepts (verdict-same e)
       reply-same e (refused n) = refl
 
       pub answer-same : answer st c k ≡ answer st' c k
       unfolding answer
-      answer-same = let r = row-same in let o = outcome-same in let q = reply-same (effect (rule (user-of st c) c k)) (outcome st c k) in cc
+      answer-same = let r = row-same in let o = outcome-same in let q = reply-same (rule (user-of st c) c k .effect) (outcome st c k) in cc
 
       change-same : (e : Effect) → Agree inside (change e st) (change e st')
       change-same (puts l) f o = put-agree l st st' f (A f o)
@@ -188,4 +170,4 @@ module _ (inside : ℕ → Bool) (op : inside 16 ≡ true) where
 
       pub next-agrees : Agree inside (next st c k) (next st' c k)
       unfolding next
-      next-agrees f o = let r = row-same in let x = outcome-same in let q = after-same (effect (rule (user-of st c) c k)) (outcome st c k) f o in cc
+      next-agrees f o = let r = row-same in let x = outcome-same in let q = after-same (rule (user-of st c) c k .effect) (outcome st c k) f o in cc

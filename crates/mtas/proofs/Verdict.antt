@@ -4,20 +4,19 @@ use mathlib.Core.Logic.{_↔_, _⊎_, inl, inr}
 use mathlib.Core.List.{List}
 use mathlib.Core.Bool.{Bool, true, false}
 use Prim.Native.Nat.{ℕ, suc}
-use native.Mathlib.Omega.{arith}
 use Rattle.bits.specs.Bit.{digit}
 use Rattle.mtas.specs.State.{State, user-of}
 use Rattle.mtas.specs.Call.{Call, AddIssuer, RemoveIssuer, AssignTrust, RevokeTrust, AddUser, RemoveUser, AddRole, RemoveRole, AddPerm, RemovePerm, AssignUser, RevokeUser, AssignPerm, RevokePerm, AssignRH, RevokeRH, CreateSession, DeleteSession, AddActiveRole, DropActiveRole, CheckAccess}
-use Rattle.mtas.specs.Rule.{rule, effect}
-use Rattle.mtas.specs.Answer.{Outcome, accepted, refused, outcome, may-use, verdict-of, answer}
+use Rattle.mtas.specs.Rule.{rule}
+use Rattle.mtas.specs.Answer.{Outcome, accepted, refused, outcome, decides-on, verdict-of, answer}
 use Rattle.mtas.specs.Layout.{view}
 use Rattle.mtas.specs.LawTest.{LawfulWords}
 use Rattle.mtas.specs.Record.{Request, undecodable, request, decode}
 use Rattle.mtas.specs.Monitor.{Result, turned-down, answered, monitor}
 use Rattle.mtas.specs.Decision.{Entitled}
-use Rattle.mtas.proofs.Guards.{refused-at-least-4}
+use Rattle.mtas.proofs.Guards.{refused-not-0}
 use Rattle.mtas.proofs.Step.{differ, refused-answer}
-use Rattle.mtas.proofs.Decision.{may-use-iff}
+use Rattle.mtas.proofs.Decision.{decision-iff}
 use Rattle.mtas.proofs.Monitor.{accepted-zero, monitor-lawful, monitor-cases}
 
 digit-true : (b : Bool) → digit b ≡ 1 → b ≡ true
@@ -25,7 +24,7 @@ digit-true true h = refl
 digit-true false h = absurd (differ h)
 
 -- 'The verdict is 1 only for kind 21'
-checks : (st : State) (c : ℕ) (k : Call) → verdict-of st c (effect (rule (user-of st c) c k)) ≡ 1 → (p i s : ℕ) × (k ≡ CheckAccess p i s) × (may-use st c p i s ≡ true)
+checks : (st : State) (c : ℕ) (k : Call) → verdict-of st c (rule (user-of st c) c k .effect) ≡ 1 → (p i s : ℕ) × (k ≡ CheckAccess p i s) × (decides-on st c p i s ≡ true)
 checks st c (AddIssuer i) h = absurd (differ h)
 checks st c (RemoveIssuer i) h = absurd (differ h)
 checks st c (AssignTrust j) h = absurd (differ h)
@@ -46,13 +45,13 @@ checks st c (CreateSession s u) h = absurd (differ h)
 checks st c (DeleteSession s) h = absurd (differ h)
 checks st c (AddActiveRole s r) h = absurd (differ h)
 checks st c (DropActiveRole s r) h = absurd (differ h)
-checks st c (CheckAccess p i s) h = (p, i, s, refl, digit-true (may-use st c p i s) h)
+checks st c (CheckAccess p i s) h = (p, i, s, refl, digit-true (decides-on st c p i s) h)
 
 module _ (ws b : List ℕ) where
-  abbrev Says : Result → Type 0
-  Says r = r .answer .verdict ≡ 1
+  abbrev SaysYes : Result → Type 0
+  SaysYes r = r .answer .verdict ≡ 1
 
-  said : Says (monitor ws b) → Entitled ws b
+  said : SaysYes (monitor ws b) → Entitled ws b
   unfolding answer
   said h = go (monitor-cases ws b)
     where
@@ -70,31 +69,31 @@ module _ (ws b : List ℕ) where
               record {
                 owner = c;
                 asked = p;
-                issuer = i;
+                its-issuer = i;
                 session = s;
                 lawful = W;
                 is-check = d ∙ ap (request c) is;
                 is-accepted = ap (λ a. a .refusal) (sym (told W)) ∙ ap (λ x. answered (view ws) x .refusal) d ∙ accepted-zero (view ws) c k e;
-                may = may-use-iff (view ws) c p (W .lawful) i s .0 m;
+                may = decision-iff (view ws) (W .lawful) c p i s .0 m;
               }
 
       go : (LawfulWords ws) ⊎ ((n : ℕ) × (monitor ws b ≡ turned-down (suc n) ws)) → Entitled ws b
       go (inl W) = by W (decode b) refl (ap (λ a. a .verdict) (told W) ∙ h)
       go (inr (n, e)) = absurd (differ (ap (λ r. r .answer .verdict) (sym e) ∙ h))
 
-  entitled : Entitled ws b → Says (monitor ws b)
+  entitled : Entitled ws b → SaysYes (monitor ws b)
   unfolding answer
   entitled E = ap (λ r. r .answer .verdict) (monitor-lawful ws b (E .lawful)) ∙ ap (λ x. answered (view ws) x .verdict) (E .is-check) ∙ on (outcome (view ws) (E .owner) call) refl
     where
       call : Call
-      call = CheckAccess (E .asked) (E .issuer) (E .session)
+      call = CheckAccess (E .asked) (E .its-issuer) (E .session)
 
       zero-told : answer (view ws) (E .owner) call .refusal ≡ 0
       zero-told = ap (λ x. answered (view ws) x .refusal) (sym (E .is-check)) ∙ ap (λ r. r .answer .refusal) (sym (monitor-lawful ws b (E .lawful))) ∙ E .is-accepted
 
       on : (o : Outcome) → outcome (view ws) (E .owner) call ≡ o → answer (view ws) (E .owner) call .verdict ≡ 1
-      on accepted e = rw e (ap digit (may-use-iff (view ws) (E .owner) (E .asked) (E .lawful .lawful) (E .issuer) (E .session) .1 (E .may)))
-      on (refused n) e = let l = refused-at-least-4 (view ws) (E .owner) call n e in let z : n ≡ 0 = rw e at zero-told in absurd (omega arith)
+      on accepted e = rw e (ap digit (decision-iff (view ws) (E .lawful .lawful) (E .owner) (E .asked) (E .its-issuer) (E .session) .1 (E .may)))
+      on (refused n) e = absurd (refused-not-0 (view ws) (E .owner) call n e (rw e at zero-told))
 
   pub verdict-iff : ((monitor ws b) .answer .verdict ≡ 1) ↔ Entitled ws b
   verdict-iff = (said, entitled)

@@ -1,4 +1,5 @@
 -- The twenty-one calls and their arguments (document 01, 'The call record'), named as in AMTAS's Table I, the sessions' as in the NIST RBAC standard.
+use mathlib.Core.List.{List, [], _∷_}
 use Prim.Native.Nat.{ℕ}
 
 pub data Call : Type 0 where
@@ -14,3 +15,27 @@ pub data Call : Type 0 where
   DeleteSession : ℕ → Call  -- s: close session
   AddActiveRole DropActiveRole : ℕ → ℕ → Call  -- s, r: activate, deactivate role
   CheckAccess : ℕ → ℕ → ℕ → Call  -- p, i, s: may session i/s use own permission p
+
+-- the arguments, as the record has them
+abbrev pub arguments : Call → List ℕ
+arguments (AddIssuer i) = i ∷ []
+arguments (RemoveIssuer i) = i ∷ []
+arguments (AssignTrust j) = j ∷ []
+arguments (RevokeTrust j) = j ∷ []
+arguments (AddUser u) = u ∷ []
+arguments (RemoveUser u) = u ∷ []
+arguments (AddRole r) = r ∷ []
+arguments (RemoveRole r) = r ∷ []
+arguments (AddPerm p) = p ∷ []
+arguments (RemovePerm p) = p ∷ []
+arguments (AssignUser u r) = u ∷ r ∷ []
+arguments (RevokeUser u r) = u ∷ r ∷ []
+arguments (AssignPerm p i r) = p ∷ i ∷ r ∷ []
+arguments (RevokePerm p i r) = p ∷ i ∷ r ∷ []
+arguments (AssignRH q i r) = q ∷ i ∷ r ∷ []
+arguments (RevokeRH q i r) = q ∷ i ∷ r ∷ []
+arguments (CreateSession s u) = s ∷ u ∷ []
+arguments (DeleteSession s) = s ∷ []
+arguments (AddActiveRole s r) = s ∷ r ∷ []
+arguments (DropActiveRole s r) = s ∷ r ∷ []
+arguments (CheckAccess p i s) = p ∷ i ∷ s ∷ []

@@ -2,11 +2,13 @@
 use mathlib.Core.Path.{_≡_}
 use mathlib.Core.List.{List, [], _∷_, _++_}
 use mathlib.Core.Bool.{false}
-use Prim.Native.Nat.{ℕ, _+_, _<_}
+use Prim.Native.Nat.{ℕ, _<_}
 use lib.ListN.{length}
 use Rattle.mtas.specs.Fact.{Fact, enrolled, trusts, user, role, permission, holds, granted, attached, opened, active}
 use Rattle.mtas.specs.State.{State, nothing, put}
+use Rattle.mtas.specs.Answer.{Answer, accepts, refuses}
 use Rattle.mtas.specs.Layout.{encode, view}
+use Rattle.mtas.specs.Record.{record-of}
 use Rattle.mtas.specs.Monitor.{monitor}
 use Rattle.mtas.specs.Histories.{History, final}
 use Rattle.mtas.specs.Journal.{Line, played, end, broken, long, output}
@@ -21,64 +23,60 @@ S-facts =
 abbrev pub S : State
 S = put S-facts nothing
 
--- the record of a kind, a caller and arguments
-abbrev pub record-of : ℕ → ℕ → List ℕ → List ℕ
-record-of kind caller args = (5 + length args) ∷ 0 ∷ kind ∷ 0 ∷ caller ∷ args
-
 -- records played from S, the record tried then, its answer, and facts that don't stand then
 pub data Case : Type 0 where
-  try : History → List ℕ → ℕ → ℕ → List Fact → Case
+  try : History → List ℕ → Answer → List Fact → Case
 
 abbrev pub twelve-cases : List Case
 twelve-cases =
-    try [] (record-of 21 1 (5 ∷ 0 ∷ 4 ∷ [])) 0 1 []  -- A
-    ∷ try (record-of 4 0 (1 ∷ []) ∷ []) (record-of 21 1 (5 ∷ 0 ∷ 4 ∷ [])) 0 0 (granted 1 5 0 2 ∷ [])  -- B
-    ∷ try (record-of 20 0 (4 ∷ 2 ∷ []) ∷ []) (record-of 21 1 (5 ∷ 0 ∷ 4 ∷ [])) 0 0 []  -- C
-    ∷ try [] (record-of 21 1 (6 ∷ 0 ∷ 4 ∷ [])) 10 0 []  -- D
-    ∷ try [] (record-of 21 1 (5 ∷ 0 ∷ 5 ∷ [])) 0 0 []  -- E
-    ∷ try [] (record-of 13 1 (5 ∷ 0 ∷ 7 ∷ [])) 10 0 []  -- F
-    ∷ try [] (record-of 13 0 (0 ∷ 1 ∷ 0 ∷ [])) 9 0 (permission 0 0 ∷ role 1 0 ∷ [])  -- G
-    ∷ try [] (record-of 15 0 (2 ∷ 0 ∷ 2 ∷ [])) 13 0 []  -- H
-    ∷ try [] (record-of 3 0 (0 ∷ [])) 8 0 []  -- I
-    ∷ try [] (record-of 3 0 (16 ∷ [])) 6 0 []  -- J
-    ∷ try [] (record-of 1 16 (0 ∷ [])) 7 0 []  -- K
-    ∷ try [] (record-of 19 0 (4 ∷ 3 ∷ [])) 11 0 []  -- L
+    try [] (record-of 21 1 (5 ∷ 0 ∷ 4 ∷ [])) (accepts 1) []  -- A
+    ∷ try (record-of 4 0 (1 ∷ []) ∷ []) (record-of 21 1 (5 ∷ 0 ∷ 4 ∷ [])) (accepts 0) (granted 1 5 0 2 ∷ [])  -- B
+    ∷ try (record-of 20 0 (4 ∷ 2 ∷ []) ∷ []) (record-of 21 1 (5 ∷ 0 ∷ 4 ∷ [])) (accepts 0) []  -- C
+    ∷ try [] (record-of 21 1 (6 ∷ 0 ∷ 4 ∷ [])) (refuses 10) []  -- D
+    ∷ try [] (record-of 21 1 (5 ∷ 0 ∷ 5 ∷ [])) (accepts 0) []  -- E
+    ∷ try [] (record-of 13 1 (5 ∷ 0 ∷ 7 ∷ [])) (refuses 10) []  -- F
+    ∷ try [] (record-of 13 0 (0 ∷ 1 ∷ 0 ∷ [])) (refuses 9) (permission 0 0 ∷ role 1 0 ∷ [])  -- G
+    ∷ try [] (record-of 15 0 (2 ∷ 0 ∷ 2 ∷ [])) (refuses 13) []  -- H
+    ∷ try [] (record-of 3 0 (0 ∷ [])) (refuses 8) []  -- I
+    ∷ try [] (record-of 3 0 (16 ∷ [])) (refuses 6) []  -- J
+    ∷ try [] (record-of 1 16 (0 ∷ [])) (refuses 7) []  -- K
+    ∷ try [] (record-of 19 0 (4 ∷ 3 ∷ [])) (refuses 11) []  -- L
     ∷ []
 
 -- Two links across two estates: 0#3 is attached below 0#2 and 1#6 below 0#3, 1%5 is granted to 1#6 in place of 0#2.
-abbrev pub two-links : History
+abbrev two-links : History
 two-links =
     record-of 15 0 (3 ∷ 0 ∷ 2 ∷ []) ∷ record-of 7 1 (6 ∷ []) ∷ record-of 15 1 (6 ∷ 0 ∷ 3 ∷ [])
     ∷ record-of 13 1 (5 ∷ 1 ∷ 6 ∷ []) ∷ record-of 14 1 (5 ∷ 0 ∷ 2 ∷ []) ∷ []
 
 -- the same, and one record more
-abbrev pub two-links-and : List ℕ → History
+abbrev two-links-and : List ℕ → History
 two-links-and b = two-links ++ (b ∷ [])
 
 abbrev pub further-cases : List Case
 further-cases =
     -- 'Stopping after one attachment'
-    try two-links (record-of 21 1 (5 ∷ 0 ∷ 4 ∷ [])) 0 1 (granted 1 5 0 2 ∷ [])
-    -- the lower link goes, then the upper: nothing is reached
-    ∷ try (two-links-and (record-of 16 1 (6 ∷ 0 ∷ 3 ∷ []))) (record-of 21 1 (5 ∷ 0 ∷ 4 ∷ [])) 0 0 (attached 1 6 0 3 ∷ [])
-    ∷ try (two-links-and (record-of 16 0 (3 ∷ 0 ∷ 2 ∷ []))) (record-of 21 1 (5 ∷ 0 ∷ 4 ∷ [])) 0 0 (attached 0 3 0 2 ∷ [])
+    try two-links (record-of 21 1 (5 ∷ 0 ∷ 4 ∷ [])) (accepts 1) (granted 1 5 0 2 ∷ [])
+    -- the lower link goes, or the upper: nothing is reached
+    ∷ try (two-links-and (record-of 16 1 (6 ∷ 0 ∷ 3 ∷ []))) (record-of 21 1 (5 ∷ 0 ∷ 4 ∷ [])) (accepts 0) (attached 1 6 0 3 ∷ [])
+    ∷ try (two-links-and (record-of 16 0 (3 ∷ 0 ∷ 2 ∷ []))) (record-of 21 1 (5 ∷ 0 ∷ 4 ∷ [])) (accepts 0) (attached 0 3 0 2 ∷ [])
     -- 'Clearing grants on withdrawal and forgetting attachments'
-    ∷ try (two-links-and (record-of 4 0 (1 ∷ []))) (record-of 21 1 (5 ∷ 0 ∷ 4 ∷ [])) 0 0 (attached 1 6 0 3 ∷ [])
+    ∷ try (two-links-and (record-of 4 0 (1 ∷ []))) (record-of 21 1 (5 ∷ 0 ∷ 4 ∷ [])) (accepts 0) (attached 1 6 0 3 ∷ [])
     -- 'Following trust in place of attachments': 1#6 holds 1%5 and 0 trusts 1, but no attachment leads there
-    ∷ try (record-of 7 1 (6 ∷ []) ∷ record-of 13 1 (5 ∷ 1 ∷ 6 ∷ []) ∷ record-of 14 1 (5 ∷ 0 ∷ 2 ∷ []) ∷ []) (record-of 21 1 (5 ∷ 0 ∷ 4 ∷ [])) 0 0 []
+    ∷ try (record-of 7 1 (6 ∷ []) ∷ record-of 13 1 (5 ∷ 1 ∷ 6 ∷ []) ∷ record-of 14 1 (5 ∷ 0 ∷ 2 ∷ []) ∷ []) (record-of 21 1 (5 ∷ 0 ∷ 4 ∷ [])) (accepts 0) []
     -- a circle over one link
-    ∷ try (record-of 15 0 (3 ∷ 0 ∷ 2 ∷ []) ∷ []) (record-of 15 0 (2 ∷ 0 ∷ 3 ∷ [])) 13 0 (attached 0 2 0 3 ∷ [])
+    ∷ try (record-of 15 0 (3 ∷ 0 ∷ 2 ∷ []) ∷ []) (record-of 15 0 (2 ∷ 0 ∷ 3 ∷ [])) (refuses 13) (attached 0 2 0 3 ∷ [])
     -- striking takes the roles in others' words
-    ∷ try (two-links-and (record-of 2 16 (1 ∷ []))) (record-of 21 1 (5 ∷ 0 ∷ 4 ∷ [])) 5 0 (attached 1 6 0 3 ∷ granted 1 5 1 6 ∷ trusts 0 1 ∷ [])
+    ∷ try (two-links-and (record-of 2 16 (1 ∷ []))) (record-of 21 1 (5 ∷ 0 ∷ 4 ∷ [])) (refuses 5) (attached 1 6 0 3 ∷ granted 1 5 1 6 ∷ trusts 0 1 ∷ [])
     -- refusal 3's row: the empty record, a length field too large, kinds 22 and 257, an argument too few
-    ∷ try [] [] 3 0 []
-    ∷ try [] (7 ∷ 0 ∷ 3 ∷ 0 ∷ 0 ∷ 1 ∷ []) 3 0 []
-    ∷ try [] (record-of 22 0 (1 ∷ [])) 3 0 []
-    ∷ try [] (6 ∷ 0 ∷ 1 ∷ 1 ∷ 16 ∷ 2 ∷ []) 3 0 []
-    ∷ try [] (record-of 21 1 (5 ∷ 0 ∷ [])) 3 0 []
-    -- refusal 4 before 5 and 6
-    ∷ try [] (record-of 3 17 (16 ∷ [])) 4 0 []
-    ∷ try [] (record-of 3 2 (16 ∷ [])) 5 0 []
+    ∷ try [] [] (refuses 3) []
+    ∷ try [] (7 ∷ 0 ∷ 3 ∷ 0 ∷ 0 ∷ 1 ∷ []) (refuses 3) []
+    ∷ try [] (record-of 22 0 (1 ∷ [])) (refuses 3) []
+    ∷ try [] (6 ∷ 0 ∷ 1 ∷ 1 ∷ 16 ∷ 2 ∷ []) (refuses 3) []
+    ∷ try [] (record-of 21 1 (5 ∷ 0 ∷ [])) (refuses 3) []
+    -- refusal 4 before 5 and 6; 5 before 6
+    ∷ try [] (record-of 3 17 (16 ∷ [])) (refuses 4) []
+    ∷ try [] (record-of 3 2 (16 ∷ [])) (refuses 5) []
     ∷ []
 
 abbrev pub NoneStand : State → List Fact → Type 0
@@ -87,8 +85,8 @@ NoneStand st (f ∷ l) = (st .stands f ≡ false) × NoneStand st l
 
 -- the monitor's answer on words, and what the words say then
 abbrev pub Holds : Case → Type 0
-Holds (try earlier b refusal verdict gone) =
-    ((monitor (final (encode S) earlier) b) .answer ≡ record { refusal = refusal; verdict = verdict }) × NoneStand (view (final (encode S) earlier)) gone
+Holds (try earlier b a gone) =
+    ((monitor (final (encode S) earlier) b) .answer ≡ a) × NoneStand (view (final (encode S) earlier)) gone
 
 abbrev pub Every : List Case → Type 0
 Every [] = Unit

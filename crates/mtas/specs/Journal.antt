@@ -30,7 +30,7 @@ pub record Reading : Type 0 where
   pub records : History  -- each a part of the journal's own bytes
   pub ending : Ending
 
--- the records in the bytes that are left from a byte place on; every record has 5 bytes at least, so n bytes hold fewer than n
+-- the records in the bytes that are left from a byte place on; every record has 5 bytes at least, so n bytes hold at most n
 unfoldable pub read-from : ℕ → ℕ → List ℕ → Reading
 read-from zero at left = record { records = []; ending = broken-at at }
 read-from (suc n) at left = elim (first-of left) [

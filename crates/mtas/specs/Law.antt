@@ -1,12 +1,12 @@
 -- The lawful states (document 01, 'Lawful means').
 use mathlib.Core.Path.{_≡_}
 use mathlib.Core.List.{List, _∷_}
-use mathlib.Core.Bool.{true}
+use mathlib.Core.Bool.{Bool, true}
 use Prim.Native.Nat.{ℕ}
-use Rattle.mtas.specs.Fact.{Fact, attached, opened, numbers, Below16}
+use Rattle.mtas.specs.Fact.{Fact, granted, attached, opened, numbers, Below16}
 use Rattle.mtas.specs.Needs.{needs}
 use Rattle.mtas.specs.State.{State}
-use Rattle.mtas.specs.Hierarchy.{Graph, Acyclic}
+use Rattle.mtas.specs.Hierarchy.{Role, Graph, Acyclic}
 
 pub data In (f : Fact) : List Fact → Type 0 where
   here : {l : List Fact} → In f (f ∷ l)
@@ -15,6 +15,10 @@ pub data In (f : Fact) : List Fact → Type 0 where
 -- the attachments that stand: is b directly below a
 abbrev pub attachments : State → Graph
 attachments st a b = st .stands (attached (b .issuer) (b .number) (a .issuer) (a .number))
+
+-- the roles that hold j%p
+abbrev pub holders-of : State → ℕ → ℕ → Role → Bool
+holders-of st j p a = st .stands (granted j p (a .issuer) (a .number))
 
 pub record Lawful (st : State) : Type 0 where
   -- what stands has what it needs

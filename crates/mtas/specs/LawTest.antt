@@ -1,4 +1,4 @@
--- Which words are a lawful state, and the test for it (refusal 2).
+-- Which words are a lawful state, and the test for it (refusal 2). The test goes by word and bit.
 use mathlib.Core.Path.{_≡_}
 use mathlib.Core.Logic.{_⊎_}
 use mathlib.Core.List.{List, [], _∷_}
@@ -7,23 +7,40 @@ use Prim.Native.Nat.{ℕ, _<_}
 use lib.Dec.{eqb, ltb}
 use lib.ListN.{length, getD}
 use Rattle.bits.specs.Below.{all-below}
-use Rattle.mtas.specs.Fact.{Fact, enrolled, trusts, user, role, permission, holds, granted, attached, opened, active}
+use Rattle.mtas.specs.Fact.{Fact, opened}
 use Rattle.mtas.specs.Needs.{needs}
 use Rattle.mtas.specs.State.{State}
-use Rattle.mtas.specs.Hierarchy.{_#_, reaches}
+use Rattle.mtas.specs.Hierarchy.{Graph, nth-role, reaches}
 use Rattle.mtas.specs.Law.{Lawful, attachments}
-use Rattle.mtas.specs.Layout.{state-length, session-user, active-roles, read, view}
+use Rattle.mtas.specs.Layout.{session-user, Cell, sixteen, its-user, in-session, cell, state-length, word-at, read, view}
 
--- the two words of an open session, or of a closed one
-abbrev pub SessionPair : ℕ → ℕ → Type 0
-SessionPair w v = (w < 16) ⊎ ((w ≡ 65535) × (v ≡ 0))
+-- what the number x of a word may be: a session's user is below 16, or 65535, and then no role is active there
+abbrev pub Fits : List ℕ → Cell → ℕ → Type 0
+Fits ws (sixteen f) x = Unit
+Fits ws (its-user i s) x = (x < 16) ⊎ (x ≡ 65535)
+Fits ws (in-session i s f) x = read ws (session-user i s) ≡ 65535 → x ≡ 0
 
--- words are lawful where they are as many and as wide as document 01 says, each session's pair is an open or a closed one's, and the state they say is lawful
+-- words are lawful where they are as many and as wide as document 01 says, each is one that its sort may be, and the state they say is lawful
 pub record LawfulWords (ws : List ℕ) : Type 0 where
   pub long : length ws ≡ state-length
   pub wide : (k : ℕ) → getD ws k 0 < 65536
-  pub sessions : (i s : ℕ) → i < 16 → s < 16 → SessionPair (read ws (session-user i s)) (read ws (active-roles i s))
+  pub fit : (k : ℕ) → k < state-length → Fits ws (cell (word-at k)) (getD ws k 0)
   pub lawful : Lawful (view ws)
+
+-- a test of every word, with its place
+abbrev pub every-word : List ℕ → (ℕ → ℕ → Bool) → Bool
+every-word ws t = all-below state-length (λ k. t k (getD ws k 0))
+
+abbrev pub fits : List ℕ → Cell → ℕ → Bool
+fits ws (sixteen f) x = true
+fits ws (its-user i s) x = ltb x 16 || eqb x 65535
+fits ws (in-session i s f) x = not (eqb (read ws (session-user i s)) 65535) || eqb x 0
+
+-- the fact that bit n of a word says, or the number n of a session's user
+abbrev pub said : List ℕ → Cell → ℕ → Fact
+said ws (sixteen f) n = f n
+said ws (its-user i s) n = opened i s n
+said ws (in-session i s f) n = f (read ws (session-user i s)) n
 
 -- every fact of the list passes
 unfoldable pub all-of : (Fact → Bool) → List Fact → Bool
@@ -34,28 +51,14 @@ all-of t (f ∷ l) = elim (t f) [ true ↦ all-of t l | false ↦ false ]
 unfoldable pub has-needs : State → Fact → Bool
 has-needs st f = elim (st .stands f) [ true ↦ all-of (λ g. st .stands g) (needs f) | false ↦ true ]
 
--- the facts that begin with the numbers i, j, k, l
-abbrev pub facts : ℕ → ℕ → ℕ → ℕ → List Fact
-facts i j k l = enrolled i ∷ trusts i j ∷ user i j ∷ role i j ∷ permission i j ∷ holds i j k ∷ granted i j k l ∷ attached i j k l ∷ opened i j k ∷ active i j k l ∷ []
-
--- an attachment that closes a circle of links
-abbrev pub circular : State → ℕ → ℕ → ℕ → ℕ → Bool
-circular st j q i r = st .stands (attached j q i r) && reaches (attachments st) (j # q) (i # r)
-
--- a test of every four numbers below 16
-unfoldable pub all-fours : (ℕ → ℕ → ℕ → ℕ → Bool) → Bool
-all-fours t = all-below 16 (λ i. all-below 16 (λ j. all-below 16 (λ k. all-below 16 (λ l. t i j k l))))
-
-unfoldable pub sixteen-bit : List ℕ → Bool
-sixteen-bit ws = all-below state-length (λ k. ltb (getD ws k 0) 65536)
-
--- a session's user is below 16, or 65535 with no active role
-unfoldable pub session-pairs : List ℕ → Bool
-session-pairs ws = all-below 16 (λ i. all-below 16 (λ s.
-    ltb (read ws (session-user i s)) 16 || (eqb (read ws (session-user i s)) 65535 && eqb (read ws (active-roles i s)) 0)))
-
-unfoldable pub lawful-facts : State → Bool
-lawful-facts st = all-fours (λ i j k l. all-of (has-needs st) (facts i j k l) && not (circular st i j k l))
+-- no link of the 256 roles is part of a circle
+unfoldable pub no-circle : Graph → Bool
+no-circle below = all-below 256 (λ a. all-below 256 (λ b. not (below (nth-role a) (nth-role b) && reaches below (nth-role b) (nth-role a))))
 
 unfoldable pub lawful-words : List ℕ → Bool
-lawful-words ws = eqb (length ws) state-length && (sixteen-bit ws && (session-pairs ws && lawful-facts (view ws)))
+lawful-words ws =
+    eqb (length ws) state-length
+    && (every-word ws (λ k x. ltb x 65536)
+    && (every-word ws (λ k x. fits ws (cell (word-at k)) x)
+    && (every-word ws (λ k x. all-below 16 (λ n. has-needs (view ws) (said ws (cell (word-at k)) n)))
+    && no-circle (attachments (view ws)))))

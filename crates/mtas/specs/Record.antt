@@ -1,17 +1,24 @@
 -- The call record (document 01): length 2 bytes, kind 2 bytes, both little-endian, caller 1 byte, then the arguments, 1 byte each.
-use mathlib.Core.List.{List, [], _∷_}
+use mathlib.Core.List.{List, [], _∷_, _++_}
 use mathlib.Core.Bool.{Bool, true, false, _&&_, _||_}
-use Prim.Native.Nat.{ℕ, zero, suc, _+_, _*_}
+use Prim.Native.Nat.{ℕ, zero, suc, _+_, _*_, _/_, _%_}
 use lib.Dec.{eqb, ltb, leb}
 use lib.ListN.{length, getD, drop}
-use Rattle.mtas.specs.Call.{Call, AddIssuer, RemoveIssuer, AssignTrust, RevokeTrust, AddUser, RemoveUser, AddRole, RemoveRole, AddPerm, RemovePerm, AssignUser, RevokeUser, AssignPerm, RevokePerm, AssignRH, RevokeRH, CreateSession, DeleteSession, AddActiveRole, DropActiveRole, CheckAccess}
+use Rattle.mtas.specs.Call.{Call, AddIssuer, RemoveIssuer, AssignTrust, RevokeTrust, AddUser, RemoveUser, AddRole, RemoveRole, AddPerm, RemovePerm, AssignUser, RevokeUser, AssignPerm, RevokePerm, AssignRH, RevokeRH, CreateSession, DeleteSession, AddActiveRole, DropActiveRole, CheckAccess, arguments}
 
--- a call that waits for its arguments
-pub data Form : Type 0 where
-  unknown : Form
-  one : (ℕ → Call) → Form
-  two : (ℕ → ℕ → Call) → Form
-  three : (ℕ → ℕ → ℕ → Call) → Form
+-- a kind: how many arguments it has, and its call with them
+pub record Form : Type 0 where
+  pub count : ℕ
+  pub call : (ℕ → ℕ) → Call
+
+abbrev one : (ℕ → Call) → Form
+one f = record { count = 1; call = λ x. f (x 0) }
+
+abbrev two : (ℕ → ℕ → Call) → Form
+two f = record { count = 2; call = λ x. f (x 0) (x 1) }
+
+abbrev three : (ℕ → ℕ → ℕ → Call) → Form
+three f = record { count = 3; call = λ x. f (x 0) (x 1) (x 2) }
 
 -- the forms of kinds 1 to 21
 abbrev pub forms : List Form
@@ -28,30 +35,32 @@ forms =
     ∷ two AddActiveRole ∷ two DropActiveRole
     ∷ three CheckAccess ∷ []
 
-abbrev pub form-of : ℕ → Form
-form-of zero = unknown
-form-of (suc k) = getD forms k unknown
+pub data Kind : Type 0 where
+  unknown : Kind
+  known : Form → Kind
+
+abbrev pub nth-kind : List Form → ℕ → Kind
+nth-kind [] k = unknown
+nth-kind (f ∷ l) zero = known f
+nth-kind (f ∷ l) (suc k) = nth-kind l k
+
+abbrev pub kind-at : ℕ → Kind
+kind-at zero = unknown
+kind-at (suc k) = nth-kind forms k
 
 -- a record as the monitor takes it: refusal 3's row, or a caller and a call
 pub data Request : Type 0 where
   undecodable : Request
   request : ℕ → Call → Request
 
--- exactly the arguments of the form
-abbrev pub fill : ℕ → Form → List ℕ → Request
+-- exactly the arguments of the kind
+abbrev pub fill : ℕ → Kind → List ℕ → Request
 fill c unknown l = undecodable
-fill c (one f) [] = undecodable
-fill c (one f) (x ∷ []) = request c (f x)
-fill c (one f) (x ∷ y ∷ l) = undecodable
-fill c (two f) [] = undecodable
-fill c (two f) (x ∷ []) = undecodable
-fill c (two f) (x ∷ y ∷ []) = request c (f x y)
-fill c (two f) (x ∷ y ∷ z ∷ l) = undecodable
-fill c (three f) [] = undecodable
-fill c (three f) (x ∷ []) = undecodable
-fill c (three f) (x ∷ y ∷ []) = undecodable
-fill c (three f) (x ∷ y ∷ z ∷ []) = request c (f x y z)
-fill c (three f) (x ∷ y ∷ z ∷ v ∷ l) = undecodable
+fill c (known f) l = elim (eqb (length l) (f .count)) [ true ↦ request c (f .call (λ n. getD l n 0)) | false ↦ undecodable ]
+
+-- the bytes before the arguments: length, kind and caller
+abbrev pub header : ℕ
+header = 5
 
 abbrev pub two-bytes : List ℕ → ℕ → ℕ
 two-bytes b k = getD b k 0 + 256 * getD b (suc k) 0
@@ -62,9 +71,46 @@ kind-of b = two-bytes b 2
 abbrev pub caller-of : List ℕ → ℕ
 caller-of b = getD b 4 0
 
--- 'record under 5 bytes, length field wrong, kind unknown, or length wrong for the kind': undecodable
+-- 'record under 5 bytes, length field wrong, kind unknown, or length wrong for the kind': undecodable.
+-- It is said of lists of any numbers; those above 255, which no record has, are read like the others.
 unfoldable pub decode : List ℕ → Request
-decode b = elim (leb 5 (length b) && eqb (two-bytes b 0) (length b)) [ true ↦ fill (caller-of b) (form-of (kind-of b)) (drop 5 b) | false ↦ undecodable ]
+decode b = elim (leb header (length b) && eqb (two-bytes b 0) (length b)) [ true ↦ fill (caller-of b) (kind-at (kind-of b)) (drop header b) | false ↦ undecodable ]
+
+-- the kind of a call
+abbrev pub kind : Call → ℕ
+kind (AddIssuer i) = 1
+kind (RemoveIssuer i) = 2
+kind (AssignTrust j) = 3
+kind (RevokeTrust j) = 4
+kind (AddUser u) = 5
+kind (RemoveUser u) = 6
+kind (AddRole r) = 7
+kind (RemoveRole r) = 8
+kind (AddPerm p) = 9
+kind (RemovePerm p) = 10
+kind (AssignUser u r) = 11
+kind (RevokeUser u r) = 12
+kind (AssignPerm p i r) = 13
+kind (RevokePerm p i r) = 14
+kind (AssignRH q i r) = 15
+kind (RevokeRH q i r) = 16
+kind (CreateSession s u) = 17
+kind (DeleteSession s) = 18
+kind (AddActiveRole s r) = 19
+kind (DropActiveRole s r) = 20
+kind (CheckAccess p i s) = 21
+
+-- two bytes, little-endian
+abbrev as-two-bytes : ℕ → List ℕ
+as-two-bytes n = n % 256 ∷ n / 256 ∷ []
+
+-- the record of a kind, a caller and arguments, whether there is such a kind or not
+abbrev pub record-of : ℕ → ℕ → List ℕ → List ℕ
+record-of k c args = as-two-bytes (header + length args) ++ as-two-bytes k ++ (c ∷ args)
+
+-- the record of a call: decode the other way
+unfoldable pub encode-call : ℕ → Call → List ℕ
+encode-call c k = record-of (kind k) c (arguments k)
 
 -- 'A member is an issuer in the set, every other issuer an outsider'; the operator, caller 16, is neither, and its records remain
 abbrev pub inside : (ℕ → Bool) → ℕ → Bool

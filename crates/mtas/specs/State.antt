@@ -3,6 +3,7 @@ use mathlib.Core.List.{List, [], _∷_}
 use mathlib.Core.Bool.{Bool, true, false}
 use Prim.Native.Nat.{ℕ}
 use Rattle.bits.specs.Below.{find-below}
+use Rattle.bits.specs.Bit.{pack}
 use Rattle.mtas.specs.Fact.{Fact, opened, same}
 use Rattle.mtas.specs.Needs.{needs}
 
@@ -21,9 +22,13 @@ listed (g ∷ l) f = elim (same f g) [ true ↦ true | false ↦ listed l f ]
 unfoldable pub put : List Fact → State → State
 put l st = record { stands = λ g. elim (listed l g) [ true ↦ true | false ↦ st .stands g ] }
 
--- Document 01's cascades are this one: 'cleared with the thing they name'.
+-- f goes, with all that needs it: document 01's cascades are this one.
 unfoldable pub cut : Fact → State → State
 cut f st = record { stands = λ g. elim (listed (g ∷ needs g) f) [ true ↦ false | false ↦ st .stands g ] }
+
+-- the facts of sixteen bits as a word
+abbrev pub packed : State → (ℕ → Fact) → ℕ
+packed st f = pack 16 (λ n. st .stands (f n))
 
 -- the user of the session i/s, or 65535 where it is closed
 abbrev pub user-of : State → ℕ → ℕ → ℕ

@@ -2,6 +2,7 @@
 ghost use mathlib.Core.Path.{_≡_};
 ghost use Prim.Native.Nat.{_+_, _<_, _≤_};
 ghost use lib.ListN.{length};
+ghost use Rattle.mtas.specs.Layout.{links-length};
 use bits::RoleSet;
 
 // The first count of these roles, 16 i + r for role r of issuer i.
@@ -33,7 +34,7 @@ fn first_bit(w: u64) -> usize
 
 // The first direct senior of the k-th role that is left, or 256.
 fn first_senior(links: &[u16], k: usize, left: &[u64; 4]) -> usize
-    requires { ⌜ (length (now links) ≡ 4096) × (k < 256) ⌝ }
+    requires { ⌜ (length (now links) ≡ links-length) × (k < 256) ⌝ }
     ensures { λ r. ⌜ r ≤ 256 ⌝ }
 {
     for n in 0..4 {
@@ -67,7 +68,7 @@ fn to_index(b: u8) -> usize
 // The roles outside a set, seniors before juniors where there is such an order: a search in depth, from junior to senior.
 // In that case 511 steps are enough, 255 up and 256 back. Only its bound is promised, since any order is right.
 pub fn search(links: &[u16], tops: RoleSet) -> Order
-    requires { ⌜ length (now links) ≡ 4096 ⌝ }
+    requires { ⌜ length (now links) ≡ links-length ⌝ }
     ensures { λ r. ⌜ r .count ≤ 256 ⌝ }
 {
     let words = tops.words;

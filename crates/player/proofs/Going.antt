@@ -1,151 +1,148 @@
--- A journal that is played up to a byte place: what is printed and what is to come make up the whole text.
-use mathlib.Core.Path.{_≡_, refl, sym, ap, ap₂, _∙_}
+-- A turn of the player, and a journal that is played up to a byte place: what is printed and what is to come make up the whole text.
+use mathlib.Core.Path.{_≡_, refl, sym, _∙_}
+use mathlib.Core.Logic.{⊎-elim}
 use mathlib.Core.List.{List, [], _∷_, _++_, append-nil, append-assoc}
-use Prim.Native.Nat.{ℕ, suc, _+_, _-_, _*_, _≤_, _<_}
+use Prim.Native.Nat.{ℕ, suc, _+_, _-_, _*_, _^_, _≤_, _<_}
+use native.Mathlib.Numerals.{add-one}
 use native.Mathlib.Omega.{arith}
-use lib.ListN.{length, take, drop}
+use lib.ListN.{length, take, drop, length-append}
 use lib.Seq.{drop-drop}
+use mir.Syntax.{w64}
+use mir.Val.{Fits}
+use types.Run.{OneOf}
+use denote.Enum.Declared.{tagOf}
 use borrow.Author.Tests.{le-ltb, lt-ltb, eq-eqb}
 use Rattle.mtas.specs.Layout.{state-length}
-use Rattle.mtas.specs.Monitor.{monitor, initial-words, start}
-use Rattle.mtas.specs.Histories.{final}
-use Rattle.mtas.specs.Journal.{Ending, complete, broken-at, Reading, no-more, whole, partial, first-of, read-from, Line, played, end, broken, long, line-of, lines-from, last-line, output, read-journal}
-use Rattle.lines.specs.Text.{text-of, text-of-all}
-use Rattle.lines.specs.Written.{written, Exactly, Appended}
-use Rattle.lines.specs.declared.Buffer.{Buffer}
 use Rattle.mtas.specs.Record.{kind-of, caller-of}
+use Rattle.mtas.specs.Monitor.{monitor, start}
+use Rattle.mtas.specs.Histories.{final}
+use Rattle.mtas.specs.Journal.{Ending, complete, broken-at, Reading, whole, first-of, read-from, played, end, broken, long, lines-from, last-line, output, read-journal}
+use Rattle.journal.specs.Found.{found-of, Inside}
+use Rattle.journal.specs.declared.Found.{Found}
+use Rattle.journal.specs.declared.Found.the-variants.{NoMore, Whole, Partial}
+use Rattle.journal.proofs.Found.{the-type}
+use Rattle.lines.specs.Text.{text-of, text-of-all}
+use Rattle.lines.specs.Written.{Exactly, Appended}
+use Rattle.lines.specs.declared.Buffer.{Buffer}
+use Rattle.lines.proofs.Decimal.{few}
 use Rattle.monitor.specs.Contract.{Gives}
 use Rattle.player.specs.Played.{room, left-by, Played}
+use Rattle.player.specs.Turned.{Turned}
 
--- ---- what is still to come
--- the last line behind so many records
-abbrev last : ℕ → Reading → Line
-last count r = elim (r .ending) [ complete ↦ end (count + length (r .records)) | broken-at k ↦ broken k ]
+-- ---- one turn, by what was found
+module _ {ws left : List ℕ} {at count : ℕ} {found : Found} {line : Buffer} (near : at ≤ 65536) (early : count ≤ at) where
+  pub turn-played : {ws′ bytes : List ℕ} {len kind caller refusal verdict : ℕ} → found ≡ Whole len → bytes ≡ take len left
+      → Gives (monitor ws bytes) refusal verdict ws′ → kind ≡ kind-of bytes → caller ≡ caller-of bytes
+      → Exactly line (text-of (played (count + 1) kind caller refusal verdict)) × (count + 1 < 100000 → line .len ≤ 28)
+      → Turned ws left at count found ws′ line
+  turn-played f b v k c (w, s) =
+      rw f (record { words = rw b at (v .same-words); text = rw (k, c, v .same-refusal, v .same-verdict, b) at w; short = s (omega arith) })
 
-unfoldable pub to-come : ℕ → List ℕ → Reading → List Line
-to-come count ws r = lines-from (suc count) ws (r .records) ++ (last count r ∷ [])
+  pub turn-end : found ≡ NoMore → Exactly line (text-of (end count)) → Turned ws left at count found ws line
+  unfolding text-of
+  turn-end f w = rw f (record { words = refl; text = w; short = omega (arith, simp length-append at (w .len), few 4 count (omega arith)) })
 
-come-next : (count : ℕ) (ws b : List ℕ) (h : List (List ℕ)) (e : Ending)
-    → to-come count ws (record { records = b ∷ h; ending = e })
-    ≡ line-of (suc count) b (monitor ws b) ∷ to-come (suc count) ((monitor ws b) .words) (record { records = h; ending = e })
-unfolding to-come lines-from
-come-next count ws b h complete =
-    let e : count + suc (length h) ≡ suc count + length h = omega arith in
-    rw e
-come-next count ws b h (broken-at k) = refl
+  pub turn-broken : found ≡ Partial → Exactly line (text-of (broken at)) → Turned ws left at count found ws line
+  unfolding text-of
+  turn-broken f w = rw f (record { words = refl; text = w; short = omega (arith, simp length-append at (w .len), few 4 at (omega arith)) })
 
-come-last : (h : List (List ℕ)) (e : Ending) → last 0 (record { records = h; ending = e }) ≡ last-line h e
-come-last h complete =
-    let e : 0 + length h ≡ length h = omega arith in
-    rw e
-come-last h (broken-at k) = refl
+-- a whole record ends in the journal
+module _ {journal : List ℕ} {at len : ℕ} {found : Found} (i : Inside journal at found) (w : found ≡ Whole len) where
+  pub lies : at + len ≤ length journal
+  lies = i .whole w .1
 
-come-output : (journal : List ℕ) → length journal ≤ 65536 → output journal ≡ to-come 0 initial-words (read-journal journal)
-unfolding output to-come
-come-output journal l =
-    rw (le-ltb 65536 (length journal) l, output) (ap (λ x. lines-from 1 initial-words (read-journal journal .records) ++ (x ∷ [])) (sym (come-last (read-journal journal .records) (read-journal journal .ending))))
+  pub lands : length journal < 2 ^ 64 → Fits w64 (at + len)
+  lands l = omega (arith, lies)
 
+-- ---- played up to a place
 -- what is read from a place on, behind so many records
-abbrev pub rest : List ℕ → ℕ → ℕ → Reading
+abbrev rest : List ℕ → ℕ → ℕ → Reading
 rest journal at count = read-from (suc (length journal - count)) at (drop at journal)
 
 -- a record is read, and then the rest
-abbrev then : List ℕ → Reading → Reading
-then b r = record { records = b ∷ r .records; ending = r .ending }
-
-read-whole : (n at len : ℕ) (left : List ℕ) → first-of left ≡ whole len → read-from (suc n) at left ≡ then (take len left) (read-from n (at + len) (drop len left))
+rest-whole : (journal : List ℕ) (at count len : ℕ) → whole len ≡ first-of (drop at journal) → (5 ≤ len) × (at + len ≤ length journal) → 5 * count ≤ at
+    → rest journal at count ≡ record { records = take len (drop at journal) ∷ rest journal (at + len) (suc count) .records; ending = rest journal (at + len) (suc count) .ending }
 unfolding read-from
-read-whole n at len left f = rw (f, read-from)
-
-rest-whole : (journal : List ℕ) (at count len : ℕ) → first-of (drop at journal) ≡ whole len → 5 ≤ len → at + len ≤ length journal → 5 * count ≤ at
-    → rest journal at count ≡ then (take len (drop at journal)) (rest journal (at + len) (suc count))
-rest-whole journal at count len f l m few =
+rest-whole journal at count len f l m =
     let e : length journal - count ≡ suc (length journal - suc count) = omega arith in
-    read-whole (length journal - count) at len (drop at journal) f
-    ∙ ap₂ (λ n left. then (take len (drop at journal)) (read-from n (at + len) left)) e (drop-drop len at journal)
+    rw (sym f, read-from, drop-drop, e)
 
-rest-none : (journal : List ℕ) (at count : ℕ) → first-of (drop at journal) ≡ no-more → rest journal at count ≡ record { records = []; ending = complete }
-unfolding read-from
-rest-none journal at count f = rw (f, read-from)
-
-rest-partial : (journal : List ℕ) (at count : ℕ) → first-of (drop at journal) ≡ partial → rest journal at count ≡ record { records = []; ending = broken-at at }
-unfolding read-from
-rest-partial journal at count f = rw (f, read-from)
-
--- ---- played up to a place
+-- what was played and what is to come are the journal's records, and its last line is to come
 pub record Going (journal ws out : List ℕ) (used at count : ℕ) : Type 0 where
   pub short : length journal ≤ 65536
   pub inside : at ≤ length journal
   pub few : 5 * count ≤ at
   pub fits : used ≤ 28 * count
   pub size : length out ≡ room
-  pub printed : take used out ++ text-of-all (to-come count ws (rest journal at count)) ≡ text-of-all (output journal)
-  pub leaves : final ws (rest journal at count .records) ≡ final initial-words (read-journal journal .records)
-
-started : (ws : List ℕ) {vs : List ℕ} {refusal verdict : ℕ} → length ws ≡ state-length → Gives (start ws) refusal verdict vs → vs ≡ initial-words
-unfolding start
-started ws e g = g .same-words ∙ rw (eq-eqb (length ws) state-length e, start)
+  pub total : count + length (rest journal at count .records) ≡ length (read-journal journal .records)
+  pub ending : rest journal at count .ending ≡ read-journal journal .ending
+  pub printed : take used out ++ text-of-all (lines-from (suc count) ws (rest journal at count .records) ++ (last-line (read-journal journal .records) (read-journal journal .ending) ∷ [])) ≡ text-of-all (output journal)
+  pub leaves : (before : List ℕ) → final ws (rest journal at count .records) ≡ left-by before journal
 
 pub going-start : (ws : List ℕ) {journal vs out : List ℕ} {refusal verdict : ℕ} → length ws ≡ state-length → Gives (start ws) refusal verdict vs → length journal ≤ 65536 → length out ≡ room → Going journal vs out 0 0 0
+unfolding start output left-by
 going-start ws {journal} n v l m =
     let e : length journal - 0 ≡ length journal = omega arith in
-    rw (started ws n v) (record { short = l; inside = omega arith; few = omega arith; fits = omega arith; size = m; printed = rw (e, come-output journal l); leaves = rw e })
+    let t = le-ltb 65536 (length journal) l in
+    rw (v .same-words, eq-eqb (length ws) state-length n, start) (record {
+      short = l;
+      inside = omega arith;
+      few = omega arith;
+      fits = omega arith;
+      size = m;
+      total = rw e (omega arith);
+      ending = rw e;
+      printed = rw (e, t, output);
+      leaves = λ before. rw (e, t, left-by);
+    })
 
--- one record more: found, played, its line printed
-pub going-next : (journal ws bytes : List ℕ) {ws′ out out′ : List ℕ} {used used′ at count len kind caller refusal verdict : ℕ} {line : Buffer} → Going journal ws out used at count
-    → first-of (drop at journal) ≡ whole len → (5 ≤ len) × (at + len ≤ length journal) → bytes ≡ take len (drop at journal)
-    → Gives (monitor ws bytes) refusal verdict ws′ → kind ≡ kind-of bytes → caller ≡ caller-of bytes
-    → Exactly line (text-of (played (count + 1) kind caller refusal verdict)) × (count + 1 < 100000 → line .len ≤ 28) → Appended used line used′ out out′
+-- one record more
+pub going-next : {journal ws ws′ out out′ : List ℕ} {used used′ at count len : ℕ} {found : Found} {line : Buffer} → Going journal ws out used at count
+    → found-of found ≡ first-of (drop at journal) → Inside journal at found → found ≡ Whole len
+    → Turned ws (drop at journal) at count found ws′ line → Appended used line used′ out out′
     → Going journal ws′ out′ used′ (at + len) (count + 1)
-unfolding text-of-all final
-going-next journal ws bytes {ws′} {out} {out′} {used} {used′} {at} {count} {len} {kind} {caller} {refusal} {verdict} {line} g f (l, m) eb v ek ec (w, u) a =
-    let b = take len (drop at journal) in
-    let one : count + 1 ≡ suc count = omega arith in
-    let r = rest-whole journal at count len f l m (g .few) in
-    let later = rest journal (at + len) (suc count) in
-    let words : ws′ ≡ (monitor ws b) .words = v .same-words ∙ ap (λ x. (monitor ws x) .words) eb in
-    let line-is : written line ≡ text-of (line-of (suc count) b (monitor ws b)) =
-    w .same ∙ rw (one, ek, ec, v .same-refusal, v .same-verdict) (ap (λ x. text-of (line-of (suc count) x (monitor ws x))) eb) in
-    rw one (record {
+unfolding text-of-all final lines-from
+going-next {journal} {at = at} {count} {len} g f i w t a =
+    let r = rest-whole journal at count len (rw w at f) (i .whole w) (g .few) in
+    rw add-one (record {
       short = g .short;
-      inside = m;
-      few = omega (arith, g .few);
-      fits = omega (arith, g .fits, a .place, u (omega (arith, g .few, g .inside, g .short)));
+      inside = lies i w;
+      few = omega (arith, i .whole w);
+      fits = omega arith;
       size = a .long ∙ g .size;
-      printed = rw (a .text, line-is, words) (append-assoc (take used out) (text-of (line-of (suc count) b (monitor ws b))) (text-of-all (to-come (suc count) ((monitor ws b) .words) later))
-          ∙ ap (λ l. take used out ++ text-of-all l) (sym (ap (to-come count ws) r ∙ come-next count ws b (later .records) (later .ending))) ∙ g .printed);
-      leaves = rw words (sym (ap (λ x. final ws (x .records)) r) ∙ g .leaves);
+      total = omega (arith, rw r at (g .total));
+      ending = rw r at (g .ending);
+      printed = rw (a .text, t .text .same, append-assoc, t .words, w, add-one) (rw r at (g .printed));
+      leaves = λ before. rw (t .words, w) (rw r at (g .leaves before));
     })
 
 -- no record more: the last line ends the text
-going-ends : {before journal ws out out′ : List ℕ} {used used′ at count : ℕ} {e : Ending} {line : Buffer} → Going journal ws out used at count
-    → rest journal at count ≡ record { records = []; ending = e } → Exactly line (text-of (last count (record { records = []; ending = e })))
+ends : {before journal ws out out′ : List ℕ} {used used′ at count : ℕ} (e : Ending) {line : Buffer} → Going journal ws out used at count
+    → rest journal at count ≡ record { records = []; ending = e }
+    → (count ≡ length (read-journal journal .records) → Exactly line (text-of (last-line (read-journal journal .records) e)))
     → Appended used line used′ out out′ → Played before journal ws used′ out′
-unfolding text-of-all final to-come lines-from left-by
-going-ends {journal = journal} {ws} {out} {used = used} {count = count} {e} g r w a =
-    let line = last count (record { records = []; ending = e }) in
+unfolding text-of-all final lines-from
+ends {before} e g r last a =
+    let w = last (omega (arith, rw r at (g .total))) in
     record {
-      inside = omega (arith, a .place, a .long, w .inside, g .fits, g .size, g .few, g .inside, g .short);
-      text = a .text ∙ ap (λ l. take used out ++ l) (w .same ∙ sym (append-nil (text-of line))) ∙ ap (λ x. take used out ++ text-of-all (to-come count ws x)) (sym r) ∙ g .printed;
-      words = rw (le-ltb 65536 (length journal) (g .short), left-by) (sym (ap (λ x. final ws (x .records)) r) ∙ g .leaves);
+      inside = omega arith;
+      text = rw (a .text, w .same, rw r at (g .ending)) (rw append-nil at (rw r at (g .printed)));
+      words = rw r at (g .leaves before);
     }
 
-pub going-end : {before journal ws out out′ : List ℕ} {used used′ at count : ℕ} {line : Buffer} → Going journal ws out used at count → first-of (drop at journal) ≡ no-more
-    → Exactly line (text-of (end count)) → Appended used line used′ out out′ → Played before journal ws used′ out′
-going-end {journal = journal} {at = at} {count} g f w a =
-    let e : count ≡ count + 0 = omega arith in
-    going-ends g (rest-none journal at count f) (rw e at w) a
-
-pub going-broken : {before journal ws out out′ : List ℕ} {used used′ at count : ℕ} {line : Buffer} → Going journal ws out used at count → first-of (drop at journal) ≡ partial
-    → Exactly line (text-of (broken at)) → Appended used line used′ out out′ → Played before journal ws used′ out′
-going-broken {journal = journal} {at = at} {count} g f w a = going-ends g (rest-partial journal at count f) w a
+-- the tags 0 and 2 are those of NoMore and Partial
+pub going-end : {before journal ws ws′ out out′ : List ℕ} {used used′ at count : ℕ} {found : Found} {line : Buffer} → Going journal ws out used at count
+    → found-of found ≡ first-of (drop at journal) → OneOf (0 ∷ 2 ∷ []) (tagOf the-type found)
+    → Turned ws (drop at journal) at count found ws′ line → Appended used line used′ out out′
+    → Played before journal ws′ used′ out′
+unfolding read-from
+going-end {found = NoMore} g f k t a = rw (t .words) (ends complete g (rw (sym f, read-from)) (λ n. rw n at (t .text)) a)
+going-end {found = Whole len} g f k t a = absurd (⊎-elim (λ e. omega arith) (λ e. omega arith) k)
+going-end {at = at} {found = Partial} g f k t a = rw (t .words) (ends (broken-at at) g (rw (sym f, read-from)) (λ n. t .text) a)
 
 -- a journal that is too long isn't played
 pub too-long : {ws journal out out′ : List ℕ} {used : ℕ} {line : Buffer} → 65536 < length journal → length out ≡ room → Exactly line (text-of long) → Appended 0 line used out out′ → Played ws journal ws used out′
 unfolding output left-by text-of-all
 too-long {ws} {journal} l m w a =
-    record {
-      inside = omega (arith, a .place, a .long, w .inside);
-      text = rw (lt-ltb 65536 (length journal) l, output) (a .text ∙ w .same ∙ sym (append-nil (text-of long)));
-      words = rw (lt-ltb 65536 (length journal) l, left-by);
-    }
+    let t = lt-ltb 65536 (length journal) l in
+    record { inside = omega arith; text = rw (t, output) (a .text ∙ w .same ∙ sym (append-nil (text-of long))); words = rw (t, left-by) }

@@ -1,44 +1,30 @@
--- What the last arm of a `match` on a kind knows: no form of this kind takes the arguments.
+-- What the last arm of a `match` on a kind knows: the kind is unknown.
 use mathlib.Core.Path.{_≡_, refl}
-use mathlib.Core.Logic.{⊎-elim}
-use mathlib.Core.List.{List}
+use mathlib.Core.List.{List, [], _∷_}
 use Prim.Native.Nat.{ℕ, zero, suc, _<_, _≤_}
 use native.Mathlib.Omega.{arith}
-use lib.ListN.{List·getD-eq-default}
-use Rattle.bits.proofs.Booleans.{below-or-not}
-use Rattle.mtas.specs.Record.{Request, undecodable, request, unknown, forms, form-of, fill}
+use lib.ListN.{length}
+use Rattle.mtas.specs.Record.{Form, forms, unknown, nth-kind, kind-at}
+use Rattle.record.specs.Decoded.{Formed}
+use Rattle.record.specs.declared.Kind.the-variants.{Unknown}
 
--- the kinds above 21
-above : (k : ℕ) → 22 ≤ k → form-of k ≡ unknown
-above zero h = absurd (omega arith)
-above (suc k) h = List·getD-eq-default forms unknown {n = k} (omega arith)
+-- k is none of 1 to m
+abbrev Passed : ℕ → ℕ → Type 0
+Passed k zero = Unit {0}
+Passed k (suc m) = Passed k m × (k ≡ suc m → ⊥)
 
--- the caller c, the arguments l and the kind k
-module _ (c : ℕ) (l : List ℕ) (k : ℕ) where
-  -- P, and where m with these arguments is a request, so that it has an arm, that k is not m
-  abbrev pub Passed : Request → ℕ → Type 0 → Type 0
-  Passed undecodable m P = P
-  Passed (request _ _) m P = P × (k ≡ m → ⊥)
+above : {k : ℕ} (m : ℕ) → 0 < k → Passed k m → m < k
+above zero p h = p
+above (suc m) p h = let q = above m p (h .0) in omega (arith, h .1)
 
-  -- k passed the arms of the kinds below m; it computes where m and the number of arguments are known
-  abbrev pub Other : ℕ → Type 0
-  Other zero = Unit {0}
-  Other (suc m) = Passed (fill c (form-of m) l) m (Other m)
+past : (l : List Form) (k : ℕ) → length l ≤ k → nth-kind l k ≡ unknown
+past [] k h = refl
+past (f ∷ l) zero h = absurd (omega arith)
+past (f ∷ l) (suc k) h = past l k (omega arith)
 
-  earlier : (q : Request) (m : ℕ) (P : Type 0) → Passed q m P → P
-  earlier undecodable m P h = h
-  earlier (request _ _) m P h = h .0
+no-form : (k : ℕ) → Passed k (length forms) → kind-at k ≡ unknown
+no-form zero h = refl
+no-form (suc k) h = past forms k (omega (arith, above (length forms) (omega arith) h))
 
-  own : (q : Request) (P : Type 0) → Passed q k P → undecodable ≡ q
-  own undecodable P h = refl
-  own (request _ _) P h = absurd (h .1 refl)
-
-  below : (m : ℕ) → Other m → k < m → undecodable ≡ fill c (form-of k) l
-  below zero h b = absurd (omega arith)
-  below (suc m) h b =
-      ⊎-elim (λ s. below m (earlier (fill c (form-of m) l) m (Other m) h) s)
-      (λ s. let e : m ≡ k = omega arith in own (fill c (form-of k) l) (Other k) (rw e at h))
-      (below-or-not k m)
-
-  pub other : Other 22 → undecodable ≡ fill c (form-of k) l
-  other h = ⊎-elim (λ s. below 22 h s) (λ s. rw (above k s)) (below-or-not k 22)
+pub other : {k x y z : ℕ} → Passed k (length forms) → Formed k x y z Unknown
+other {k} h = record { fills = λ c l p q s. rw (no-form k h) }

@@ -1,2 +1,3 @@
-pub mod Forms
-pub mod Bytes
+mod Forms
+mod Bytes
+pub mod Padding

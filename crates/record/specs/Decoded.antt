@@ -1,10 +1,18 @@
 -- What the code's types say, in the model's terms.
+use mathlib.Core.Path.{_≡_}
+use mathlib.Core.Bool.{true, false}
+use mathlib.Core.List.{List}
+use Prim.Native.Nat.{ℕ}
+use lib.Dec.{eqb}
+use lib.ListN.{length, getD}
 use Rattle.mtas.specs.Call as model
-use Rattle.mtas.specs.Record.{Request, request, undecodable}
+use Rattle.mtas.specs.Record.{Request, request, undecodable, kind-at, fill}
 use Rattle.record.specs.declared.Call.{Call}
 use Rattle.record.specs.declared.Call.the-variants.{AddIssuer, RemoveIssuer, AssignTrust, RevokeTrust, AddUser, RemoveUser, AddRole, RemoveRole, AddPerm, RemovePerm, AssignUser, RevokeUser, AssignPerm, RevokePerm, AssignRH, RevokeRH, CreateSession, DeleteSession, AddActiveRole, DropActiveRole, CheckAccess}
 use Rattle.record.specs.declared.Decoded.{Decoded}
 use Rattle.record.specs.declared.Decoded.the-variants.{Request as Requested, Undecodable}
+use Rattle.record.specs.declared.Kind.{Kind}
+use Rattle.record.specs.declared.Kind.the-variants.{Unknown, Known}
 
 -- the model's call of the same name and arguments
 abbrev pub call-of : Call → model.Call
@@ -34,3 +42,12 @@ call-of (CheckAccess p i s) = model.CheckAccess p i s
 abbrev pub request-of : Decoded → Request
 request-of (Requested c k) = request c (call-of k)
 request-of Undecodable = undecodable
+
+-- the request of a caller with a kind and n arguments
+abbrev pub filled : ℕ → Kind → ℕ → Request
+filled c Unknown n = undecodable
+filled c (Known m k) n = elim (eqb n m) [ true ↦ request c (call-of k) | false ↦ undecodable ]
+
+-- r is the model's kind k, with any arguments l that begin with x, y and z (0 where there are fewer)
+pub record Formed (k x y z : ℕ) (r : Kind) : Type 0 where
+  pub fills : (c : ℕ) (l : List ℕ) → x ≡ getD l 0 0 → y ≡ getD l 1 0 → z ≡ getD l 2 0 → filled c r (length l) ≡ fill c (kind-at k) l

@@ -1,8 +1,12 @@
-// The call record: its bytes decoded into a caller and one of twenty-one calls.
+// The call record: its bytes decoded into a caller and one of twenty-one calls, and a call's arguments.
 ghost use mathlib.Core.Path.{_≡_};
-ghost use mathlib.Core.List.{[], _∷_};
-ghost use Rattle.mtas.specs.Record.{form-of, fill, decode};
-ghost use Rattle.record.specs.Decoded.{request-of};
+ghost use lib.ListN.{getD};
+ghost use Rattle.mtas.specs.Record.{kind-at, fill, decode};
+ghost use Rattle.record.specs.Decoded.{call-of, request-of, Formed};
+ghost use Rattle.record.specs.Padding.{Padded};
+
+// The bytes before the arguments: length, kind and caller.
+const HEADER: usize = 5;
 
 // The calls, a case for each kind, with the arguments as they stand in the record.
 pub enum Call {
@@ -35,51 +39,65 @@ pub enum Decoded {
     Undecodable,
 }
 
-// The request of a kind with one argument; undecodable where the kind is no such.
-fn one(kind: u16, caller: u8, x: u8) -> Decoded
-    ensures { λ r. ⌜ request-of r ≡ fill caller (form-of kind) (x ∷ []) ⌝ }
+// How many arguments a kind has, and its call with them.
+enum Kind {
+    Unknown,
+    Known(usize, Call),
+}
+
+// The kinds, a line for each. Of the arguments x, y and z a kind takes as many as it has.
+fn kind_at(kind: u16, x: u8, y: u8, z: u8) -> Kind
+    ensures { λ r. ⌜ Formed kind x y z r ⌝ }
 {
     match kind {
-        1 => Decoded::Request(caller, Call::AddIssuer(x)),
-        2 => Decoded::Request(caller, Call::RemoveIssuer(x)),
-        3 => Decoded::Request(caller, Call::AssignTrust(x)),
-        4 => Decoded::Request(caller, Call::RevokeTrust(x)),
-        5 => Decoded::Request(caller, Call::AddUser(x)),
-        6 => Decoded::Request(caller, Call::RemoveUser(x)),
-        7 => Decoded::Request(caller, Call::AddRole(x)),
-        8 => Decoded::Request(caller, Call::RemoveRole(x)),
-        9 => Decoded::Request(caller, Call::AddPerm(x)),
-        10 => Decoded::Request(caller, Call::RemovePerm(x)),
-        18 => Decoded::Request(caller, Call::DeleteSession(x)),
-        _ => Decoded::Undecodable,
+        1 => Kind::Known(1, Call::AddIssuer(x)),
+        2 => Kind::Known(1, Call::RemoveIssuer(x)),
+        3 => Kind::Known(1, Call::AssignTrust(x)),
+        4 => Kind::Known(1, Call::RevokeTrust(x)),
+        5 => Kind::Known(1, Call::AddUser(x)),
+        6 => Kind::Known(1, Call::RemoveUser(x)),
+        7 => Kind::Known(1, Call::AddRole(x)),
+        8 => Kind::Known(1, Call::RemoveRole(x)),
+        9 => Kind::Known(1, Call::AddPerm(x)),
+        10 => Kind::Known(1, Call::RemovePerm(x)),
+        11 => Kind::Known(2, Call::AssignUser(x, y)),
+        12 => Kind::Known(2, Call::RevokeUser(x, y)),
+        13 => Kind::Known(3, Call::AssignPerm(x, y, z)),
+        14 => Kind::Known(3, Call::RevokePerm(x, y, z)),
+        15 => Kind::Known(3, Call::AssignRH(x, y, z)),
+        16 => Kind::Known(3, Call::RevokeRH(x, y, z)),
+        17 => Kind::Known(2, Call::CreateSession(x, y)),
+        18 => Kind::Known(1, Call::DeleteSession(x)),
+        19 => Kind::Known(2, Call::AddActiveRole(x, y)),
+        20 => Kind::Known(2, Call::DropActiveRole(x, y)),
+        21 => Kind::Known(3, Call::CheckAccess(x, y, z)),
+        _ => Kind::Unknown,
     }
 }
 
-// The same with two arguments.
-fn two(kind: u16, caller: u8, x: u8, y: u8) -> Decoded
-    ensures { λ r. ⌜ request-of r ≡ fill caller (form-of kind) (x ∷ y ∷ []) ⌝ }
+// The byte at n, 0 past the end.
+fn byte(bytes: &[u8], n: usize) -> u8
+    ensures { λ r. ⌜ r ≡ getD (now (bytes .entry)) n 0 ⌝ }
 {
-    match kind {
-        11 => Decoded::Request(caller, Call::AssignUser(x, y)),
-        12 => Decoded::Request(caller, Call::RevokeUser(x, y)),
-        17 => Decoded::Request(caller, Call::CreateSession(x, y)),
-        19 => Decoded::Request(caller, Call::AddActiveRole(x, y)),
-        20 => Decoded::Request(caller, Call::DropActiveRole(x, y)),
-        _ => Decoded::Undecodable,
-    }
+    if n < bytes.len() { bytes[n] } else { 0 }
 }
 
-// The same with three arguments.
-fn three(kind: u16, caller: u8, x: u8, y: u8, z: u8) -> Decoded
-    ensures { λ r. ⌜ request-of r ≡ fill caller (form-of kind) (x ∷ y ∷ z ∷ []) ⌝ }
+// The request of a kind with these bytes as its arguments; undecodable where it has more or fewer, or is unknown.
+fn fill(caller: u8, kind: u16, bytes: &[u8]) -> Decoded
+    ensures { λ r. ⌜ request-of r ≡ fill caller (kind-at kind) (now (bytes .entry)) ⌝ }
 {
-    match kind {
-        13 => Decoded::Request(caller, Call::AssignPerm(x, y, z)),
-        14 => Decoded::Request(caller, Call::RevokePerm(x, y, z)),
-        15 => Decoded::Request(caller, Call::AssignRH(x, y, z)),
-        16 => Decoded::Request(caller, Call::RevokeRH(x, y, z)),
-        21 => Decoded::Request(caller, Call::CheckAccess(x, y, z)),
-        _ => Decoded::Undecodable,
+    let x = byte(bytes, 0);
+    let y = byte(bytes, 1);
+    let z = byte(bytes, 2);
+    match kind_at(kind, x, y, z) {
+        Kind::Unknown => Decoded::Undecodable,
+        Kind::Known(count, call) => {
+            if bytes.len() == count {
+                Decoded::Request(caller, call)
+            } else {
+                Decoded::Undecodable
+            }
+        }
     }
 }
 
@@ -88,18 +106,47 @@ pub fn decode(record: &[u8]) -> Decoded
     ensures { λ r. ⌜ request-of r ≡ decode (now («record» .entry)) ⌝ }
 {
     let length = record.len();
-    if length < 5 {
+    if length < HEADER {
         return Decoded::Undecodable;
     }
     if bits::two_bytes(record[0], record[1]) as usize != length {
         return Decoded::Undecodable;
     }
     let kind = bits::two_bytes(record[2], record[3]);
-    let caller = record[4];
-    match length {
-        6 => one(kind, caller, record[5]),
-        7 => two(kind, caller, record[5], record[6]),
-        8 => three(kind, caller, record[5], record[6], record[7]),
-        _ => Decoded::Undecodable,
+    fill(record[4], kind, &record[HEADER..])
+}
+
+// A call's arguments in the record's order, 0 where it has fewer.
+pub struct Slots {
+    pub x: u8,
+    pub y: u8,
+    pub z: u8,
+}
+
+pub fn arguments(call: Call) -> Slots
+    ensures { λ r. ⌜ Padded (call-of call) (r .x) (r .y) (r .z) ⌝ }
+{
+    match call {
+        Call::AddIssuer(x) => Slots { x, y: 0, z: 0 },
+        Call::RemoveIssuer(x) => Slots { x, y: 0, z: 0 },
+        Call::AssignTrust(x) => Slots { x, y: 0, z: 0 },
+        Call::RevokeTrust(x) => Slots { x, y: 0, z: 0 },
+        Call::AddUser(x) => Slots { x, y: 0, z: 0 },
+        Call::RemoveUser(x) => Slots { x, y: 0, z: 0 },
+        Call::AddRole(x) => Slots { x, y: 0, z: 0 },
+        Call::RemoveRole(x) => Slots { x, y: 0, z: 0 },
+        Call::AddPerm(x) => Slots { x, y: 0, z: 0 },
+        Call::RemovePerm(x) => Slots { x, y: 0, z: 0 },
+        Call::AssignUser(x, y) => Slots { x, y, z: 0 },
+        Call::RevokeUser(x, y) => Slots { x, y, z: 0 },
+        Call::AssignPerm(x, y, z) => Slots { x, y, z },
+        Call::RevokePerm(x, y, z) => Slots { x, y, z },
+        Call::AssignRH(x, y, z) => Slots { x, y, z },
+        Call::RevokeRH(x, y, z) => Slots { x, y, z },
+        Call::CreateSession(x, y) => Slots { x, y, z: 0 },
+        Call::DeleteSession(x) => Slots { x, y: 0, z: 0 },
+        Call::AddActiveRole(x, y) => Slots { x, y, z: 0 },
+        Call::DropActiveRole(x, y) => Slots { x, y, z: 0 },
+        Call::CheckAccess(x, y, z) => Slots { x, y, z },
     }
 }

@@ -1,6 +1,6 @@
--- `answers::refusal` meets its contract: in each arm the call's own function says it.
+-- `answers::refusal` meets its contract: the front's first cause, or else the row's.
 use borrow.Author.Needs.{needs}
-use Rattle.answers.proofs.Dispatch.{called}
+use Rattle.answers.proofs.Refusals.{front-stops, front-passes}
 use Rattle.answers.proofs.refusal.Statement.{statement}
 use Rattle.answers.proofs.refusal.Tie as tie
 
@@ -8,45 +8,5 @@ pub refusal-spec : {M : Type 1} → statement M
 refusal-spec =
     tie.close
     (tie.spec
-    (λ c. search needs) (λ c κs. search needs)
-    (λ c. search needs) (λ c κs. search needs)
-    (λ c. search needs) (λ c κs. search needs)
-    (λ c. search needs) (λ c κs. search needs)
-    (λ c. search needs) (λ c κs. search needs)
-    (λ c. search needs) (λ c κs. search needs)
-    (λ c. search needs) (λ c κs. search needs)
-    (λ c. search needs) (λ c κs. search needs)
-    (λ c. search needs) (λ c κs. search needs)
-    (λ c. search needs) (λ c κs. search needs)
-    (λ c. search needs) (λ c κs. search needs)
-    (λ c. search needs) (λ c κs. search needs)
-    (λ c. search needs) (λ c κs. search needs)
-    (λ c. search needs) (λ c κs. search needs)
-    (λ c. search needs) (λ c κs. search needs)
-    (λ c. search needs) (λ c κs. search needs)
-    (λ c. search needs) (λ c κs. search needs)
-    (λ c. search needs) (λ c κs. search needs)
-    (λ c. search needs) (λ c κs. search needs)
-    (λ c. search needs) (λ c κs. search needs)
-    (λ c. search needs) (λ c κs. search needs)
-    (λ c. search called)
-    (λ c. search called)
-    (λ c. search called)
-    (λ c. search called)
-    (λ c. search called)
-    (λ c. search called)
-    (λ c. search called)
-    (λ c. search called)
-    (λ c. search called)
-    (λ c. search called)
-    (λ c. search called)
-    (λ c. search called)
-    (λ c. search called)
-    (λ c. search called)
-    (λ c. search called)
-    (λ c. search called)
-    (λ c. search called)
-    (λ c. search called)
-    (λ c. search called)
-    (λ c. search called)
-    (λ c. search called))
+    (λ c κs. search needs) (λ c. search (needs, front-stops)) (λ c κs. search needs) (λ c κs. search needs)
+    (λ c. search (needs, front-passes)))

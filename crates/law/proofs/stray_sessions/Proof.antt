@@ -1,10 +1,12 @@
 -- The invariant: what is found is gathered from the first s sessions.
+use borrow.Author.Needs.{needs}
 use mathlib.Core.Path.{_≡_, refl}
 use Prim.Native.Nat.{_-_, _≤_}
 use native.Mathlib.Omega.{arith}
 use Rattle.bits.specs.Gather.{gather}
 use Rattle.bits.proofs.Gather.{gather-more}
 use Rattle.law.specs.Stray.{session-stray, sessions-stray}
+use Rattle.law.proofs.Sessions.{all-closed}
 use Rattle.law.proofs.stray_sessions.Statement.{statement}
 use Rattle.law.proofs.stray_sessions.Tie as tie
 
@@ -21,11 +23,11 @@ loop-holds c = (omega arith, refl)
 loop-again : tie.Need-loop-again Inv-loop μ-loop
 loop-again c = (omega arith, gather-more _ _ (c .before .before .loop .inv .1) (c .stray-session .ensures))
 
-returns : tie.Need-returns Inv-loop μ-loop
+returns : tie.Need-returns-2 Inv-loop μ-loop
 unfolding sessions-stray
 returns c = let end : c .before .loop .s ≡ 16 = omega arith in rw end at (c .before .loop .inv .1)
 
 pub stray-sessions-spec : {M : Type 1} → statement M
 stray-sessions-spec =
     tie.close
-    (tie.spec Inv-loop μ-loop loop-holds (λ c κs. omega arith) (λ c. omega arith) (λ c. omega arith) loop-again returns)
+    (tie.spec Inv-loop μ-loop (λ c κs. search needs) (λ c. all-closed _ _ (λ k. c .before .before .shared-slice-known .given k .fits) (c .before .awake .ensures) (omega arith)) loop-holds (λ c κs. omega arith) (λ c. omega arith) (λ c. omega arith) loop-again returns)

@@ -1,13 +1,11 @@
--- `record::decode` meets its contract: the tests that led to a `return` say which case of the model's `decode` holds. The other needs are indices and a cast.
+-- `record::decode` meets its contract: the tests that led to a `return` say which case of the model's `decode` holds.
 use borrow.Author.Needs.{needs}
 use native.Mathlib.Omega.{arith}
-use Rattle.bits.specs.Below.{tabulate}
-use Rattle.record.proofs.Bytes.{short, wrong-length, filled, unfilled}
+use Rattle.record.proofs.Bytes.{short, wrong-length, right-length}
 use Rattle.record.proofs.decode.Statement.{statement}
 use Rattle.record.proofs.decode.Tie as tie
 
 pub decode-spec : {M : Type 1} → statement M
-unfolding tabulate
 decode-spec =
     tie.close
     (tie.spec
@@ -22,15 +20,7 @@ decode-spec =
     (λ c κs. search needs)
     (λ c. search needs)
     (λ c. search needs)
-    (λ c κs. search needs)
     (λ c. search needs)
     (λ c. search needs)
     (λ c κs. search needs)
-    (λ c. search needs)
-    (λ c. search needs)
-    (λ c. search needs)
-    (λ c κs. search needs)
-    (λ c. search filled)
-    (λ c. search filled)
-    (λ c. search filled)
-    (λ c. search unfilled))
+    (λ c. search right-length))

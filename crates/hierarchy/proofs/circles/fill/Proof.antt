@@ -14,10 +14,10 @@ use Rattle.hierarchy.proofs.circles.fill.Statement.{statement}
 use Rattle.hierarchy.proofs.circles.fill.Tie as tie
 
 abbrev Inv-loop : tie.InvT-loop
-Inv-loop links freed₀ window freed = Wide (freed .words) × Freed (linked links) (freed₀ .words) (freed .words)
+Inv-loop links freed₀ slide freed = Wide (freed .words) × Freed (linked links) (freed₀ .words) (freed .words)
 
 abbrev μ-loop : tie.MeasureT-loop
-μ-loop links freed₀ window freed = 256 - size (freed .words)
+μ-loop links freed₀ slide freed = 256 - size (freed .words)
 
 gather-row-requires : tie.Need-gather-row-requires Inv-loop μ-loop
 gather-row-requires c κs = let n : length (c .before .before .sweep .result .words) ≡ 16 = search needs in omega arith

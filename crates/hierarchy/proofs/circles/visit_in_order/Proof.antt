@@ -12,10 +12,10 @@ use Rattle.hierarchy.proofs.circles.visit_in_order.Statement.{statement
 use Rattle.hierarchy.proofs.circles.visit_in_order.Tie as tie
 
 abbrev Inv-loop : tie.InvT-loop
-Inv-loop links freed₀ window order count t₀ freed t = (t ≤ count) × Freed (linked links) (freed₀ .words) (freed .words)
+Inv-loop links freed₀ slide order count t₀ freed t = (t ≤ count) × Freed (linked links) (freed₀ .words) (freed .words)
 
 abbrev μ-loop : tie.MeasureT-loop
-μ-loop links freed₀ window order count t₀ freed t = count - t
+μ-loop links freed₀ slide order count t₀ freed t = count - t
 
 visit-requires : tie.Need-visit-requires Inv-loop μ-loop
 visit-requires c κs =

@@ -1,9 +1,0 @@
-use borrow.Author.Needs.{needs}
-use Rattle.effects.proofs.words.set_bit.Statement.{statement}
-use Rattle.effects.proofs.words.set_bit.Tie as tie
-
-pub set-bit-spec : {M : Type 1} → statement M
-set-bit-spec =
-    tie.close
-    (tie.spec (λ c. search needs) (λ c. search needs) (λ c κs. search needs) (λ c. search needs) (λ c. search needs) (λ c. search needs)
-    (λ c. cc))

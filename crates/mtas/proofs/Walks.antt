@@ -1,0 +1,54 @@
+-- Walks in two graphs that carry each other's links inside: what leads to an inside role comes from inside, and is the same in both.
+use mathlib.Core.Path.{_≡_, refl}
+use mathlib.Core.Bool.{Bool, true, false, _&&_}
+use Prim.Native.Nat.{ℕ}
+use Rattle.bits.specs.Below.{any-below}
+use Rattle.bits.proofs.Booleans.{same-test}
+use Rattle.bits.proofs.Below.{any-ext}
+use Rattle.mtas.specs.Hierarchy.{Role, _#_, Graph, Reaches, itself, down, reaches}
+use Rattle.mtas.specs.Answer.{leads-to}
+use Rattle.mtas.proofs.Hierarchy.{Numbered, reaches-sound, reaches-complete}
+use Rattle.mtas.proofs.Decision.{leads-to-sound}
+
+module _ (inside : ℕ → Bool) where
+  -- a link to an inside role comes from inside, and is in the other graph too
+  abbrev pub Carries : Graph → Graph → Type 0
+  Carries e e' = (a b : Role) → inside (b .issuer) ≡ true → e a b ≡ true → (inside (a .issuer) ≡ true) × (e' a b ≡ true)
+
+  from-inside : {e e' : Graph} → Carries e e' → {a b : Role} → Reaches e a b → inside (b .issuer) ≡ true → (inside (a .issuer) ≡ true) × Reaches e' a b
+  from-inside k itself h = (h, itself)
+  from-inside k (down {b} {c} p e) h =
+      let (t, l) = k b c h e in
+      let (i, q) = from-inside k p t in
+      (i, down q l)
+
+  -- two graphs, each with a test of roles
+  pub record Twin (e e' : Graph) (t t' : Role → Bool) : Type 0 where
+    pub there : Carries e e'
+    pub back : Carries e' e
+    pub numbered : Numbered e
+    pub numbered' : Numbered e'
+    pub same : (b : Role) → t b ≡ t' b
+    pub only-inside : (b : Role) → t b ≡ true → inside (b .issuer) ≡ true
+
+  reaches-too : {e e' : Graph} → Carries e e' → Numbered e' → (a b : Role) → inside (b .issuer) ≡ true → reaches e a b ≡ true → reaches e' a b ≡ true
+  reaches-too {e} {e'} c n a b h p = reaches-complete e' n ((from-inside c (reaches-sound e a b p) h) .1)
+
+  pub reaches-same : {e e' : Graph} → Carries e e' → Carries e' e → Numbered e → Numbered e' → (a b : Role) → inside (b .issuer) ≡ true → reaches e a b ≡ reaches e' a b
+  reaches-same c d n m a b h = same-test _ _ (reaches-too c m a b h) (reaches-too d n a b h)
+
+  module _ {e e' : Graph} {t t' : Role → Bool} (T : Twin e e' t t') where
+    pub leads-same : (a : Role) → leads-to e t a ≡ leads-to e' t' a
+    unfolding leads-to
+    leads-same a =
+        any-ext 16 (λ i. any-below 16 (λ r. t (i # r) && reaches e a (i # r))) (λ i. any-below 16 (λ r. t' (i # r) && reaches e' a (i # r)))
+        (λ i. any-ext 16 (λ r. t (i # r) && reaches e a (i # r)) (λ r. t' (i # r) && reaches e' a (i # r)) (λ r. go (i # r) (t (i # r)) refl))
+      where
+        go : (b : Role) (x : Bool) → t b ≡ x → (t b && reaches e a b) ≡ (t' b && reaches e' a b)
+        go b true h = let k = T .same b in let q = reaches-same (T .there) (T .back) (T .numbered) (T .numbered') a b (T .only-inside b h) in cc
+        go b false h = let k = T .same b in cc
+
+    pub leads-from-inside : (a : Role) → leads-to e t a ≡ true → inside (a .issuer) ≡ true
+    leads-from-inside a d =
+        let (b, w, g) = leads-to-sound e t a d in
+        (from-inside (T .there) w (T .only-inside b g)) .0

@@ -1,0 +1,49 @@
+-- From what an arm gives for its own call to any call.
+use mathlib.Core.Path.{_≡_, ap, _∙_}
+use mathlib.Core.Bool.{Bool}
+use mathlib.Core.List.{List}
+use Prim.Native.Nat.{ℕ}
+use Rattle.mtas.specs.State.{State, user-of}
+use Rattle.mtas.specs.Call as calls
+use Rattle.mtas.specs.Rule as model
+use Rattle.record.specs.Decoded.{call-of}
+use Rattle.record.specs.declared.Call.{Call}
+use Rattle.facts.specs.declared.Fact.{Fact}
+use Rattle.facts.specs.Table.{fact-of, UserOf}
+use Rattle.rule.specs.declared.Guard.{Guard}
+use Rattle.rule.specs.declared.Effect.{Effect}
+use Rattle.rule.specs.declared.Whose.{Whose}
+use Rattle.rule.specs.Table.{guards-of, effect-of, IsRow, IsLink, IsWhose, MayCall, IsEffect}
+
+-- a row that goes by the user of the session s
+by-user : {st : State} {c s u : ℕ} (k : calls.Call) → UserOf st c s u → model.rule (λ _. user-of st c s) c k ≡ model.rule (user-of st c) c k → model.rule (λ _. u) c k ≡ model.rule (user-of st c) c k
+by-user {c = c} k u same = ap (λ (x : ℕ). model.rule (λ _. x) c k) (u .is) ∙ same
+
+-- ---- the causes of a row
+module _ {st : State} {c : ℕ} {k m : Call} {l : List Guard} (e : k ≡ m) where
+  pub row : IsRow st c (call-of m) l → IsRow st c (call-of k) l
+  row h = rw e h
+
+  pub link-row : {i r : ℕ} {own : Fact} {last : List Guard} → IsLink c i r own last l
+      → model.link-causes c i r (fact-of own) (guards-of last) ≡ model.rule (user-of st c) c (call-of m) .causes → IsRow st c (call-of k) l
+  link-row h same = rw e (record { is = h .is ∙ same })
+
+  pub session-row : {s u : ℕ} → UserOf st c s u → guards-of l ≡ model.rule (λ _. u) c (call-of m) .causes
+      → model.rule (λ _. user-of st c s) c (call-of m) ≡ model.rule (user-of st c) c (call-of m) → IsRow st c (call-of k) l
+  session-row u h same = rw e (record { is = h ∙ ap (λ x. x .causes) (by-user (call-of m) u same) })
+
+-- ---- its effect
+module _ {st : State} {c : ℕ} {k m : Call} {x : Effect} (e : k ≡ m) where
+  pub effect-row : IsEffect st c (call-of m) x → IsEffect st c (call-of k) x
+  effect-row h = rw e h
+
+  pub session-effect : {s u : ℕ} → UserOf st c s u → effect-of x ≡ model.rule (λ _. u) c (call-of m) .effect
+      → model.rule (λ _. user-of st c s) c (call-of m) ≡ model.rule (user-of st c) c (call-of m) → IsEffect st c (call-of k) x
+  session-effect u h same = rw e (record { is = h ∙ ap (λ x. x .effect) (by-user (call-of m) u same) })
+
+-- ---- whose call it is
+pub whose-row : {k m : Call} {w : Whose} → k ≡ m → IsWhose (call-of m) w → IsWhose (call-of k) w
+whose-row e h = rw e h
+
+pub may : {w v : Whose} {c : ℕ} {b : Bool} → w ≡ v → MayCall v c b → MayCall w c b
+may e h = rw e h
