@@ -51,8 +51,8 @@ attachment-words ws = take links-length (drop seniors-at ws)
 pub linked-attachments : (ws : List ℕ) → linked (attachment-words ws) ≡ attachments (view ws)
 linked-attachments ws = λ t a b. same a b t
   where
-    told : (a b : Role) → Below16 (four (attachment-words ws) a b) → linked (attachment-words ws) a b ≡ attachments (view ws) a b
-    told a b h =
+    link-same : (a b : Role) → Below16 (four (attachment-words ws) a b) → linked (attachment-words ws) a b ≡ attachments (view ws) a b
+    link-same a b h =
         let p = 16 * (16 * b .issuer + b .number) + a .issuer in
         let shift : seniors-at + p ≡ address (seniors (b .issuer) (b .number) (a .issuer)) = omega arith in
         let word = getD-take links-length (drop seniors-at ws) p 0 (omega arith) ∙ getD-drop seniors-at ws p 0 ∙ ap (λ k. getD ws k 0) shift in
@@ -61,8 +61,8 @@ linked-attachments ws = λ t a b. same a b t
 
     same : (a b : Role) → linked (attachment-words ws) a b ≡ attachments (view ws) a b
     same a b =
-        same-test _ _ (λ e. sym (told a b (let n = linked-numbered (attachment-words ws) a b e in (omega arith, (omega arith, (omega arith, (omega arith, tt)))))) ∙ e)
-        (λ e. told a b (view-numbered ws (attached (b .issuer) (b .number) (a .issuer) (a .number)) e) ∙ e)
+        same-test _ _ (λ e. sym (link-same a b (let n = linked-numbered (attachment-words ws) a b e in (omega arith, (omega arith, (omega arith, (omega arith, tt)))))) ∙ e)
+        (λ e. link-same a b (view-numbered ws (attached (b .issuer) (b .number) (a .issuer) (a .number)) e) ∙ e)
 
 -- a copy of the attachment words, word by word
 pub copied : (state links : List ℕ) {links₀ : List ℕ} → length state ≡ state-length → length links ≡ links-length

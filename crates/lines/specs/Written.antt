@@ -9,7 +9,7 @@ abbrev pub written : Buffer → List ℕ
 written b = take (b .len) (b .bytes)
 
 -- r is b with more bytes behind those that it holds
-pub record Put (b r : Buffer) (more : List ℕ) : Type 0 where
+pub record Extends (b r : Buffer) (more : List ℕ) : Type 0 where
   pub text : written r ≡ written b ++ more
   pub len : r .len ≡ b .len + length more
 

@@ -6,7 +6,7 @@ ghost use lib.ListN.{length};
 ghost use Rattle.mtas.specs.Journal as Journal;
 ghost use Rattle.lines.specs.Decimal.{decimal};
 ghost use Rattle.lines.specs.Text.{field, text-of};
-ghost use Rattle.lines.specs.Written.{Put, Exactly, Appended};
+ghost use Rattle.lines.specs.Written.{Extends, Exactly, Appended};
 
 // The first len bytes are what was written; every line fits.
 pub struct Buffer {
@@ -25,7 +25,7 @@ fn empty() -> Buffer
 
 fn put_byte(mut b: Buffer, x: u8) -> Buffer
     requires { ⌜ b .len < 64 ⌝ }
-    ensures { λ r. ⌜ Put b r (x ∷ []) ⌝ }
+    ensures { λ r. ⌜ Extends b r (x ∷ []) ⌝ }
 {
     let at = b.len;
     b.bytes[at] = x;
@@ -35,7 +35,7 @@ fn put_byte(mut b: Buffer, x: u8) -> Buffer
 
 fn put_word(b: Buffer, word: &[u8]) -> Buffer
     requires { ⌜ b .len + length (now word) ≤ 64 ⌝ }
-    ensures { λ r. ⌜ Put b r (now (word .entry)) ⌝ }
+    ensures { λ r. ⌜ Extends b r (now (word .entry)) ⌝ }
 {
     let mut r = b;
     let mut i = 0;
@@ -49,7 +49,7 @@ fn put_word(b: Buffer, word: &[u8]) -> Buffer
 // The decimal digits of n.
 fn put_number(b: Buffer, n: u32) -> Buffer
     requires { ⌜ b .len ≤ 54 ⌝ }
-    ensures { λ r. ⌜ Put b r (decimal n) ⌝ }
+    ensures { λ r. ⌜ Extends b r (decimal n) ⌝ }
     ensures { λ r. ⌜ r .len ≤ b .len + 10 ⌝ }
 {
     if n < 10 {
@@ -62,7 +62,7 @@ fn put_number(b: Buffer, n: u32) -> Buffer
 // The decimal digits of n and a space.
 fn put_field(b: Buffer, n: u32) -> Buffer
     requires { ⌜ b .len ≤ 53 ⌝ }
-    ensures { λ r. ⌜ Put b r (field n) ⌝ }
+    ensures { λ r. ⌜ Extends b r (field n) ⌝ }
     ensures { λ r. ⌜ r .len ≤ b .len + 11 ⌝ }
 {
     put_byte(put_number(b, n), 32)

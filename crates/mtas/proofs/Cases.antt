@@ -122,9 +122,9 @@ S-words = (
   encode-at S 8522 (omega arith),
 )
 
-abbrev linked : State
-linked = put (role 1 6 ∷ attached 0 3 0 2 ∷ attached 1 6 0 3 ∷ []) S
+abbrev S-linked : State
+S-linked = put (role 1 6 ∷ attached 0 3 0 2 ∷ attached 1 6 0 3 ∷ []) S
 
-pub link-words : At linked 34 64 × At linked 4465 4 × At linked 4769 8
+pub link-words : At S-linked 34 64 × At S-linked 4465 4 × At S-linked 4769 8
 unfolding word-at word-in pack put listed same decide ℕ-discrete find-below
-link-words = (encode-at linked 34 (omega arith), encode-at linked 4465 (omega arith), encode-at linked 4769 (omega arith))
+link-words = (encode-at S-linked 34 (omega arith), encode-at S-linked 4465 (omega arith), encode-at S-linked 4769 (omega arith))

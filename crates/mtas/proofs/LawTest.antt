@@ -57,10 +57,10 @@ has-needs-elim st f g h e m = all-of-elim (λ x. st .stands x) m (rw (e, has-nee
 -- ---- every fact that stands is said by a bit of a word
 record SaidBy (ws : List ℕ) (f : Fact) : Type 0 where
   at : ℕ
-  number : ℕ
+  nth : ℕ
   inside : at < state-length
-  low : number < 16
-  is : said ws (cell (word-at at)) number ≡ f
+  low : nth < 16
+  is : said ws (cell (word-at at)) nth ≡ f
 
 said-by : (ws : List ℕ) (f : Fact) → (view ws) .stands f ≡ true → SaidBy ws f
 said-by ws f h = go (place f) (said-there f) (place-numbered f .0 below) (sym (view-says ws f below) ∙ h)
@@ -69,7 +69,7 @@ said-by ws f h = go (place f) (said-there f) (place-numbered f .0 below) (sym (v
     below = view-numbered ws f h
 
     at-word : (w : Word) (n : ℕ) → Below16 (word-numbers w) → n < 16 → said ws (cell w) n ≡ f → SaidBy ws f
-    at-word w n b l e = record { at = address w; number = n; inside = address-below w b; low = l; is = ap (λ x. said ws (cell x) n) (word-at-address w b) ∙ e }
+    at-word w n b l e = record { at = address w; nth = n; inside = address-below w b; low = l; is = ap (λ x. said ws (cell x) n) (word-at-address w b) ∙ e }
 
     go : (p : Place) → Says p f → PlaceNumbered p → tells ws p ≡ true → SaidBy ws f
     go (bit-of w n) (g, e, q) (b, l) t = at-word w n b l (ap (λ c. said ws c n) e ∙ sym q)
@@ -148,7 +148,7 @@ lawful-words-sound ws h =
       lawful = view-lawful ws
           (λ f g e m.
           let b = said-by ws f e in
-          has-needs-elim (view ws) f g (rw (b .is) at (all-elim 16 _ (all-elim state-length _ law (b .at) (b .inside)) (b .number) (b .low))) e m)
+          has-needs-elim (view ws) f g (rw (b .is) at (all-elim 16 _ (all-elim state-length _ law (b .at) (b .inside)) (b .nth) (b .low))) e m)
           (no-circle-sound (attachments (view ws)) (attachments-numbered (view ws) (view-numbered ws)) round);
     }
 

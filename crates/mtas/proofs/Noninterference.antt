@@ -41,12 +41,12 @@ module _ (member : ℕ → Bool) where
       g : Passed st c (AssignTrust j)
       g = passed st c (AssignTrust j) a'
 
-      told : ((monitor (encode st) b) .answer) .refusal ≡ 0
-      told = ap (λ r. r .answer .refusal) (monitor-encode st L b) ∙ ap (λ x. answered st x .refusal) d ∙ accepted-zero st c k a
+      accepted-answer : ((monitor (encode st) b) .answer) .refusal ≡ 0
+      accepted-answer = ap (λ r. r .answer .refusal) (monitor-encode st L b) ∙ ap (λ x. answered st x .refusal) d ∙ accepted-zero st c k a
 
       go : j < 16 → (eqb j 16 ≡ true) ⊎ ((ltb j 16 && member j) ≡ true) → ⊥
       go l (inl x) = let y = eqb-true j 16 x in omega arith
-      go l (inr x) = q c j (d ∙ ap (request c) e) ho l (and-right (ltb j 16) (member j) x) told
+      go l (inr x) = q c j (d ∙ ap (request c) e) ho l (and-right (ltb j 16) (member j) x) accepted-answer
 
   -- what a history and another have in common when played on two words
   record Twins (ws vs : List ℕ) (h g : History) : Type 0 where

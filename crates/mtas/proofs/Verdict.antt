@@ -55,8 +55,8 @@ module _ (ws b : List ℕ) where
   unfolding answer
   said h = go (monitor-cases ws b)
     where
-      told : LawfulWords ws → answered (view ws) (decode b) ≡ (monitor ws b) .answer
-      told W = sym (ap (λ r. r .answer) (monitor-lawful ws b W))
+      answered-so : LawfulWords ws → answered (view ws) (decode b) ≡ (monitor ws b) .answer
+      answered-so W = sym (ap (λ r. r .answer) (monitor-lawful ws b W))
 
       by : LawfulWords ws → (x : Request) → decode b ≡ x → answered (view ws) x .verdict ≡ 1 → Entitled ws b
       by W undecodable d v = absurd (differ v)
@@ -73,12 +73,12 @@ module _ (ws b : List ℕ) where
                 session = s;
                 lawful = W;
                 is-check = d ∙ ap (request c) is;
-                is-accepted = ap (λ a. a .refusal) (sym (told W)) ∙ ap (λ x. answered (view ws) x .refusal) d ∙ accepted-zero (view ws) c k e;
+                is-accepted = ap (λ a. a .refusal) (sym (answered-so W)) ∙ ap (λ x. answered (view ws) x .refusal) d ∙ accepted-zero (view ws) c k e;
                 may = decision-iff (view ws) (W .lawful) c p i s .0 m;
               }
 
       go : (LawfulWords ws) ⊎ ((n : ℕ) × (monitor ws b ≡ turned-down (suc n) ws)) → Entitled ws b
-      go (inl W) = by W (decode b) refl (ap (λ a. a .verdict) (told W) ∙ h)
+      go (inl W) = by W (decode b) refl (ap (λ a. a .verdict) (answered-so W) ∙ h)
       go (inr (n, e)) = absurd (differ (ap (λ r. r .answer .verdict) (sym e) ∙ h))
 
   entitled : Entitled ws b → SaysYes (monitor ws b)

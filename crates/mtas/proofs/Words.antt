@@ -91,11 +91,11 @@ module _ (st : State) (L : Lawful st) where
   pub view-encode : view (encode st) ≡ st
   view-encode = λ t. record { stands = λ f. agree f t }
     where
-      told : (f : Fact) → Below16 (numbers f) → (view (encode st)) .stands f ≡ st .stands f
-      told f h = view-says (encode st) f h ∙ says-encode f h
+      stands-same : (f : Fact) → Below16 (numbers f) → (view (encode st)) .stands f ≡ st .stands f
+      stands-same f h = view-says (encode st) f h ∙ says-encode f h
 
       agree : (f : Fact) → (view (encode st)) .stands f ≡ st .stands f
-      agree f = same-test _ _ (λ e. sym (told f (view-numbered (encode st) f e)) ∙ e) (λ e. told f (L .numbered f e) ∙ e)
+      agree f = same-test _ _ (λ e. sym (stands-same f (view-numbered (encode st) f e)) ∙ e) (λ e. stands-same f (L .numbered f e) ∙ e)
 
 -- ---- lawful words are those of the state that they say
 

@@ -3,13 +3,13 @@ use Prim.Native.Nat.{_≤_, _-_}
 use borrow.Author.Needs.{needs}
 use native.Mathlib.Omega.{arith}
 use lib.ListN.{length, take, length-take}
-use Rattle.lines.specs.Written.{Put}
+use Rattle.lines.specs.Written.{Extends}
 use Rattle.lines.proofs.Writing.{put-nothing, put-next, put-all}
 use Rattle.lines.proofs.put_word.Statement.{statement}
 use Rattle.lines.proofs.put_word.Tie as tie
 
 abbrev Inv-loop : tie.InvT-loop
-Inv-loop word r₀ i₀ r i = (i ≤ length word) × Put r₀ r (take i word)
+Inv-loop word r₀ i₀ r i = (i ≤ length word) × Extends r₀ r (take i word)
 
 abbrev μ-loop : tie.MeasureT-loop
 μ-loop word r₀ i₀ r i = length word - i
