@@ -13,6 +13,7 @@ use Rattle.mtas.specs.Rule as model
 use Rattle.mtas.specs.Answer.{Outcome, accepted, refused, first-cause, outcome, verdict-of, reply, answer}
 use Rattle.mtas.specs.Layout.{view}
 use Rattle.mtas.proofs.Guards.{refused-not-0}
+use Rattle.mtas.proofs.Monitor.{zero-accepted}
 use Rattle.record.specs.Padding.{Padded}
 use Rattle.record.proofs.Padding.{above-padded}
 use Rattle.facts.specs.Table.{Above}
@@ -45,11 +46,7 @@ refusal-number st c k = go (outcome st c k)
 
 -- a call with refusal 0 is accepted
 pub accepted-of : {ws : List ℕ} {c r : ℕ} {k : Call} → Refusal ws c k r → r ≡ 0 → outcome (view ws) c k ≡ accepted
-accepted-of {ws} {c} {r} {k} t z = go (outcome (view ws) c k) refl
-  where
-    go : (o : Outcome) → outcome (view ws) c k ≡ o → outcome (view ws) c k ≡ accepted
-    go accepted e = e
-    go (refused n) e = absurd (refused-not-0 (view ws) c k n e (sym (ap number-of e) ∙ refusal-number (view ws) c k ∙ sym (t .is) ∙ z))
+accepted-of {ws} {c} {r} {k} t z = zero-accepted (view ws) c k (sym (t .is) ∙ z)
 
 module _ (st : State) (c : ℕ) (k : Call) where
   abbrev of-front : Outcome

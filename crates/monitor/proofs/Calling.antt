@@ -11,13 +11,12 @@ use Rattle.mtas.specs.Rule.{rule}
 use Rattle.mtas.specs.Answer.{accepted, refused, outcome, Outcome, verdict-of, answer, next}
 use Rattle.mtas.specs.Layout.{state-length, view, encode}
 use Rattle.mtas.specs.LawTest.{LawfulWords, lawful-words}
-use Rattle.mtas.specs.Record.{decode}
 use Rattle.mtas.specs.Monitor.{answered, state-after, monitor}
 use Rattle.mtas.proofs.LawTest.{lawful-words-sound}
 use Rattle.mtas.proofs.Monitor.{monitor-lawful, accepted-zero}
 use Rattle.mtas.proofs.Words.{encode-view}
 use Rattle.mtas.proofs.Step.{refused-answer, refused-equal}
-use Rattle.record.specs.Decoded.{call-of, request-of}
+use Rattle.record.specs.Decoded.{call-of, request-of, refusal-of, Decodes}
 use Rattle.record.specs.declared.Call.{Call}
 use Rattle.record.specs.declared.Decoded.{Decoded}
 use Rattle.record.specs.declared.Decoded.the-variants.{Request as Requested, Undecodable}
@@ -50,14 +49,14 @@ unfolding answer
 accepted-verdict st c k e = rw e
 
 -- d is the record decoded
-module _ {ws : List ℕ} (b : List ℕ) (W : LawfulWords ws) {d : Decoded} (e : request-of d ≡ decode b) where
+module _ {ws : List ℕ} (b : List ℕ) (W : LawfulWords ws) {d : Decoded} (e : Decodes b d) where
   -- the table's answer to the record, and the words that it leaves
   given : {x : Decoded} → d ≡ x → monitor ws b ≡ record { answer = answered (view ws) (request-of x); words = encode (state-after (view ws) (request-of x)) }
   given h =
       monitor-lawful ws b W
-      ∙ ap (λ q. record { answer = answered (view ws) q; words = encode (state-after (view ws) q) }) (sym e ∙ ap request-of h)
+      ∙ ap (λ q. record { answer = answered (view ws) q; words = encode (state-after (view ws) q) }) (sym (e .same-request) ∙ ap request-of h)
 
-  pub undecoded : {x : Answer} → d ≡ Undecodable → x ≡ two-numbers 3 0 → Gives (monitor ws b) (x .refusal) (x .verdict) ws
+  pub undecoded : {x : Answer} → d ≡ Undecodable → x ≡ two-numbers (refusal-of Undecodable) 0 → Gives (monitor ws b) (x .refusal) (x .verdict) ws
   undecoded h q = gives q (rw (given h) (record { same-refusal = refl; same-verdict = refl; same-words = sym (encode-view ws W) }))
 
   module _ {c r : ℕ} {k : Call} (h : d ≡ Requested c k) (t : Refusal ws c (call-of k) r) where

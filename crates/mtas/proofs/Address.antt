@@ -7,7 +7,7 @@ use native.Mathlib.Omega.{arith}
 use lib.Dec.{ltb, eqb}
 use borrow.Author.Tests.{ltb-true, ltb-false, eqb-true, eqb-false, lt-ltb, le-ltb}
 use Rattle.mtas.specs.Fact.{Below16}
-use Rattle.mtas.specs.Layout.{Word, enrolled-issuers, trusted, users, roles, permissions, held, holders, seniors, session-user, active-roles, trusted-at, users-at, roles-at, permissions-at, held-at, holders-at, seniors-at, sessions-at, state-length, address, Region, regions, word-in, word-at}
+use Rattle.mtas.specs.Layout.{Word, enrolled-issuers, trusted, users, roles, permissions, held, holders, seniors, session-user, active-roles, trusted-at, users-at, roles-at, permissions-at, held-at, holders-at, seniors-at, sessions-at, state-length, address, Region, regions, word-in, word-at, owner}
 
 ruleset tests = (arith, ltb-true, ltb-false, eqb-true, eqb-false)
 
@@ -100,3 +100,19 @@ address-word-at k l = (located k l) .its-address
 
 pub word-at-numbered : (k : ℕ) → k < state-length → Below16 (word-numbers (word-at k))
 word-at-numbered k l = (located k l) .numbered
+
+-- every word but the first stands in some issuer's name
+owner-below : (w : Word) → Below16 (word-numbers w) → 0 < address w → owner w < 16
+owner-below enrolled-issuers h n = absurd (omega arith)
+owner-below (trusted i) h n = h .0
+owner-below (users i) h n = h .0
+owner-below (roles i) h n = h .0
+owner-below (permissions i) h n = h .0
+owner-below (held i u) h n = h .0
+owner-below (holders j p i) h n = h .0
+owner-below (seniors j q i) h n = h .0
+owner-below (session-user i s) h n = h .0
+owner-below (active-roles i s) h n = h .0
+
+pub owned : (k : ℕ) → 0 < k → k < state-length → owner (word-at k) < 16
+owned k p l = owner-below (word-at k) (word-at-numbered k l) (rw (address-word-at k l) p)

@@ -1,21 +1,21 @@
--- What an accepted call has shown: each of its guards passed. Every row keeps the order of the refusals.
+-- What an accepted call has shown: each of its guards passed. What a refused one is given is one of the refusals.
 use mathlib.Core.Path.{_≡_, refl}
 use mathlib.Core.List.{List, [], _∷_, _++_}
 use mathlib.Core.Bool.{Bool, true, false}
 use Prim.Native.Nat.{ℕ}
 use native.Mathlib.Omega.{arith}
 use borrow.Author.Tests.{not-false}
-use lib.Dec.{eqb}
 use lib.ListN.{drop}
 use Rattle.bits.proofs.Booleans.{clash, and-left, and-right}
 use Rattle.mtas.specs.Fact.{enrolled, Below16}
 use Rattle.mtas.specs.State.{State, user-of}
 use Rattle.mtas.specs.Hierarchy.{reaches}
 use Rattle.mtas.specs.Law.{attachments}
-use Rattle.mtas.specs.Call.{Call, AddIssuer, RemoveIssuer, AssignTrust, RevokeTrust, AddUser, RemoveUser, AddRole, RemoveRole, AddPerm, RemovePerm, AssignUser, RevokeUser, AssignPerm, RevokePerm, AssignRH, RevokeRH, CreateSession, DeleteSession, AddActiveRole, DropActiveRole, CheckAccess, arguments}
+use Rattle.mtas.specs.Call.{Call, arguments}
 use Rattle.mtas.specs.Rule.{Guard, absent, present, wrong, reached, cause, applies, Whose, operator's, issuer's, rule, may-call, front, guards, refusals, from-first, among-numbers, in-order}
 use Rattle.mtas.specs.Answer.{accepted, refused, first-cause, outcome}
 use Rattle.mtas.proofs.Facts.{below-16}
+use Rattle.mtas.proofs.Refusals.{first-rest, still-among, tried-in-order}
 
 -- what a guard says that doesn't apply
 abbrev pub Passes : State → Guard → Type 0
@@ -64,40 +64,6 @@ passed st c k e =
     let (f, o) = admitted st (rule (user-of st c) c k .whose) c (arguments k) (rule (user-of st c) c k .causes) (clear st (guards (user-of st c) c k) e) in
     record { front = f; own = o }
 
--- 'Tried from 1 upwards', by the list and not by the numbers: every row keeps the order of those from 4 on
-pub tried-in-order : (u-of : ℕ → ℕ) (c : ℕ) (k : Call) → in-order (drop 3 refusals) (guards u-of c k) ≡ true
-tried-in-order u-of c (AddIssuer i) = refl
-tried-in-order u-of c (RemoveIssuer i) = refl
-tried-in-order u-of c (AssignTrust j) = refl
-tried-in-order u-of c (RevokeTrust j) = refl
-tried-in-order u-of c (AddUser u) = refl
-tried-in-order u-of c (RemoveUser u) = refl
-tried-in-order u-of c (AddRole r) = refl
-tried-in-order u-of c (RemoveRole r) = refl
-tried-in-order u-of c (AddPerm p) = refl
-tried-in-order u-of c (RemovePerm p) = refl
-tried-in-order u-of c (AssignUser u r) = refl
-tried-in-order u-of c (RevokeUser u r) = refl
-tried-in-order u-of c (AssignPerm p i r) = refl
-tried-in-order u-of c (RevokePerm p i r) = refl
-tried-in-order u-of c (AssignRH q i r) = refl
-tried-in-order u-of c (RevokeRH q i r) = refl
-tried-in-order u-of c (CreateSession s u) = refl
-tried-in-order u-of c (DeleteSession s) = refl
-tried-in-order u-of c (AddActiveRole s r) = refl
-tried-in-order u-of c (DropActiveRole s r) = refl
-tried-in-order u-of c (CheckAccess p i s) = refl
-
--- what is in the rest of a list is in the list
-in-rest : (n m : ℕ) (l : List ℕ) → among-numbers n (from-first m l) ≡ true → among-numbers n l ≡ true
-in-rest n m [] h = h
-in-rest n m (x ∷ l) h = go (in-rest n m l) (eqb m x) refl (eqb n x) refl
-  where
-    go : (among-numbers n (from-first m l) ≡ true → among-numbers n l ≡ true) → (a : Bool) → eqb m x ≡ a → (b : Bool) → eqb n x ≡ b → among-numbers n (x ∷ l) ≡ true
-    go rec true e b d = rw (e, from-first) at h
-    go rec false e true d = rw (d, among-numbers)
-    go rec false e false d = rw (d, among-numbers) (rec (rw (e, from-first) at h))
-
 -- a refusal is one of the list
 pub refused-among : (st : State) (l : List ℕ) (m : List Guard) (n : ℕ) → in-order l m ≡ true → first-cause st m ≡ refused n → among-numbers n l ≡ true
 unfolding first-cause
@@ -106,7 +72,7 @@ refused-among st l (g ∷ m) n a h = go (refused-among st (from-first (cause g) 
   where
     go : (in-order (from-first (cause g) l) m ≡ true → first-cause st m ≡ refused n → among-numbers n (from-first (cause g) l) ≡ true) → (b : Bool) → applies st g ≡ b → among-numbers n l ≡ true
     go rec true e = let q : cause g ≡ n = cc (rw (e, first-cause) at h) in rw (← q) (and-left (among-numbers (cause g) l) (in-order (from-first (cause g) l) m) a)
-    go rec false e = in-rest n (cause g) l (rec (and-right (among-numbers (cause g) l) (in-order (from-first (cause g) l) m) a) (rw (e, first-cause) at h))
+    go rec false e = still-among n (first-rest (cause g) l) (rec (and-right (among-numbers (cause g) l) (in-order (from-first (cause g) l) m) a) (rw (e, first-cause) at h))
 
 -- and so never 0
 pub refused-not-0 : (st : State) (c : ℕ) (k : Call) (n : ℕ) → outcome st c k ≡ refused n → n ≡ 0 → ⊥

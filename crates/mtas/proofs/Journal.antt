@@ -7,7 +7,7 @@ use native.Mathlib.Decide.{ℕ-discrete}
 use native.Mathlib.Omega.{arith}
 use lib.ListN.{length, length-append, List·getD-append}
 use lib.Seq.{drop-append-seam, take-append-seam}
-use borrow.Author.Tests.{le-leb, ne-eqb, lt-ltb}
+use borrow.Author.Tests.{le-leb, ne-eqb, lt-ltb, le-ltb}
 use Rattle.bits.specs.Below.{any-below, find-below}
 use Rattle.mtas.specs.Fact.{same}
 use Rattle.mtas.specs.State.{State, nothing, listed, put, cut}
@@ -18,7 +18,7 @@ use Rattle.mtas.specs.Layout.{encode}
 use Rattle.mtas.specs.Record.{two-bytes, decode}
 use Rattle.mtas.specs.Monitor.{answered, state-after}
 use Rattle.mtas.specs.Histories.{History}
-use Rattle.mtas.specs.Journal.{whole, first-of, Reading, read-from, read-journal, Line, line-of, lines-from, last-line, output}
+use Rattle.mtas.specs.Journal.{whole, first-of, Reading, read-from, read-journal, Line, line-of, lines-from, last-line, journal-limit, output}
 use Rattle.mtas.specs.Cases.{example-journal, example-lines, JournalEnds}
 use Rattle.mtas.proofs.Law.{nothing-lawful}
 use Rattle.mtas.proofs.Monitor.{initial-is-nothing, monitor-encode, state-after-lawful}
@@ -98,5 +98,6 @@ journal-ends = record {
   one-byte = refl;
   below-5 = refl;
   past-the-end = refl;
-  too-long = λ j l. rw (lt-ltb 65536 (length j) l, output);
+  too-long = λ j l. rw (lt-ltb journal-limit (length j) (omega arith), output);
+  not-too-long = λ j l. rw (le-ltb journal-limit (length j) (omega arith), output);
 }

@@ -2,6 +2,7 @@ pub mod Facts
 pub mod Hierarchy
 pub mod Law
 pub mod Sessions
+pub mod Refusals
 pub mod Guards
 pub mod Step
 pub mod Record
@@ -14,9 +15,13 @@ pub mod Words
 pub mod LawTest
 pub mod Monitor
 pub mod Verdict
+pub mod Access
 pub mod Isolation
+pub mod Alike
+pub mod Disclosure
 pub mod Walks
 pub mod Unwinding
+pub mod Remaining
 pub mod Noninterference
 pub mod Journal
 pub mod Cases

@@ -6,7 +6,8 @@ use mathlib.Core.Bool.{Bool, true, false}
 use Prim.Native.Nat.{ℕ, suc}
 use lib.Dec.{eqb}
 use lib.ListN.{length}
-use borrow.Author.Tests.{eq-eqb}
+use borrow.Author.Tests.{eq-eqb, ne-eqb}
+use Rattle.bits.proofs.Booleans.{untrue}
 use Rattle.bits.specs.Below.{tabulate, find-below}
 use Rattle.bits.specs.Bit.{pack}
 use Rattle.mtas.specs.State.{State, nothing}
@@ -16,8 +17,9 @@ use Rattle.mtas.specs.Answer.{Outcome, accepted, refused, outcome, answe
 use Rattle.mtas.specs.Layout.{Cell, sixteen, its-user, in-session, cell, state-length, word-at, contents, encode, view}
 use Rattle.mtas.specs.LawTest.{LawfulWords, lawful-words}
 use Rattle.mtas.specs.Record.{Request, undecodable, request, decode}
-use Rattle.mtas.specs.Monitor.{turned-down, initial, initial-words, answered, state-after, monitor}
+use Rattle.mtas.specs.Monitor.{turned-down, initial, initial-words, start, answered, state-after, monitor}
 use Rattle.mtas.proofs.Law.{nothing-lawful}
+use Rattle.mtas.proofs.Guards.{refused-not-0}
 use Rattle.mtas.proofs.Step.{next-lawful, refused-equal}
 use Rattle.mtas.proofs.Words.{view-encode, encode-view, encode-lawful}
 use Rattle.mtas.proofs.LawTest.{lawful-words-sound, lawful-words-complete}
@@ -53,6 +55,24 @@ monitor-encode st L b =
     monitor-lawful (encode st) b (encode-lawful st L)
     ∙ ap (λ x. record { answer = answered x (decode b); words = encode (state-after x (decode b)) }) (view-encode st L)
 
+-- 'state not 9,025 words': 1; 'state not lawful': 2; whatever the record
+pub wrong-length : (ws b : List ℕ) → (length ws ≡ state-length → ⊥) → monitor ws b ≡ turned-down 1 ws
+unfolding monitor
+wrong-length ws b n = rw (ne-eqb (length ws) state-length n, monitor)
+
+pub not-lawful : (ws b : List ℕ) → length ws ≡ state-length → (LawfulWords ws → ⊥) → monitor ws b ≡ turned-down 2 ws
+unfolding monitor
+not-lawful ws b l n = rw (eq-eqb (length ws) state-length l, untrue (lawful-words ws) (λ e. n (lawful-words-sound ws e)), monitor)
+
+-- starting turns down words of another length and leaves them; else it gives 0 and writes every word
+pub start-wrong-length : (ws : List ℕ) → (length ws ≡ state-length → ⊥) → start ws ≡ turned-down 1 ws
+unfolding start
+start-wrong-length ws n = rw (ne-eqb (length ws) state-length n, start)
+
+pub starts : (ws : List ℕ) → length ws ≡ state-length → start ws ≡ record { answer = record { refusal = 0; verdict = 0 }; words = encode nothing }
+unfolding start
+starts ws l = rw (eq-eqb (length ws) state-length l, start) (ap (λ x. record { answer = record { refusal = 0; verdict = 0 }; words = x }) initial-is-nothing)
+
 -- every other word list is turned down
 pub monitor-cases : (ws b : List ℕ) → (LawfulWords ws) ⊎ ((n : ℕ) × (monitor ws b ≡ turned-down (suc n) ws))
 unfolding monitor
@@ -66,6 +86,14 @@ monitor-cases ws b = go (eqb (length ws) state-length) refl (lawful-words ws) re
 pub accepted-zero : (st : State) (c : ℕ) (k : Call) → outcome st c k ≡ accepted → answer st c k .refusal ≡ 0
 unfolding answer
 accepted-zero st c k e = rw e
+
+pub zero-accepted : (st : State) (c : ℕ) (k : Call) → answer st c k .refusal ≡ 0 → outcome st c k ≡ accepted
+unfolding answer
+zero-accepted st c k z = go (outcome st c k) refl
+  where
+    go : (o : Outcome) → outcome st c k ≡ o → outcome st c k ≡ accepted
+    go accepted e = e
+    go (refused n) e = absurd (refused-not-0 st c k n e (rw e at z))
 
 -- demand 1: 'Only an accepted call alters the state; a refused one hands it back exactly'
 pub refused-words : (ws b : List ℕ) → ((monitor ws b) .answer .refusal ≡ 0 → ⊥) → (monitor ws b) .words ≡ ws

@@ -1,14 +1,11 @@
 -- Demand 3, on whole lists of byte records played on words: each history agrees with its purge, so two with one purge agree.
 use mathlib.Core.Path.{_≡_, refl, ap, ap₂, sym, _∙_, subst}
-use mathlib.Core.Logic.{_↔_, _⊎_, inl, inr}
+use mathlib.Core.Logic.{_↔_}
 use mathlib.Core.List.{List, [], _∷_}
-use mathlib.Core.Bool.{Bool, true, false, _&&_}
+use mathlib.Core.Bool.{Bool, true, false}
 use Prim.Native.Nat.{ℕ, _<_}
-use native.Mathlib.Omega.{arith}
-use lib.Dec.{eqb, ltb}
-use borrow.Author.Tests.{eqb-true, lt-ltb}
 use Rattle.bits.specs.Bit.{bit}
-use Rattle.bits.proofs.Booleans.{clash, and-right, and-intro, or-cases, or-right}
+use Rattle.bits.proofs.Booleans.{clash}
 use Rattle.bits.proofs.Bit.{bit-pack, pack-ext}
 use Rattle.mtas.specs.Fact.{Fact, enrolled}
 use Rattle.mtas.specs.State.{State, nothing, packed, user-of}
@@ -24,6 +21,7 @@ use Rattle.mtas.proofs.Guards.{Passed, passed}
 use Rattle.mtas.proofs.Decision.{decision-iff}
 use Rattle.mtas.proofs.Words.{encode-at, read-encode, view-encode}
 use Rattle.mtas.proofs.Monitor.{initial-is-nothing, monitor-encode, accepted-zero}
+use Rattle.mtas.proofs.Remaining.{issuer's}
 use Rattle.mtas.proofs.Isolation.{controller, Controlled, owned-inside, Secure, nothing-secure, Agree, Calm, outsider-unseen, next-secure}
 use Rattle.mtas.proofs.Unwinding.{user-same, decision-same, answer-same, next-agrees}
 
@@ -33,7 +31,7 @@ module _ (member : ℕ → Bool) where
 
   -- the premise on answers is the one on outcomes
   calm : (st : State) → Lawful st → (b : List ℕ) → TrustRefused member (encode st) b → (c : ℕ) (k : Call) → decode b ≡ request c k → Calm ins st c k
-  calm st L b q c k d j e ho hj a = go (g .front .small .0) (or-cases (eqb j 16) (ltb j 16 && member j) hj)
+  calm st L b q c k d j e ho hj a = let l = g .front .small .0 in q c j (d ∙ ap (request c) e) ho l (sym (issuer's member j l) ∙ hj) accepted-answer
     where
       a' : outcome st c (AssignTrust j) ≡ accepted
       a' = subst (λ x. outcome st c x ≡ accepted) e a
@@ -43,10 +41,6 @@ module _ (member : ℕ → Bool) where
 
       accepted-answer : ((monitor (encode st) b) .answer) .refusal ≡ 0
       accepted-answer = ap (λ r. r .answer .refusal) (monitor-encode st L b) ∙ ap (λ x. answered st x .refusal) d ∙ accepted-zero st c k a
-
-      go : j < 16 → (eqb j 16 ≡ true) ⊎ ((ltb j 16 && member j) ≡ true) → ⊥
-      go l (inl x) = let y = eqb-true j 16 x in omega arith
-      go l (inr x) = q c j (d ∙ ap (request c) e) ho l (and-right (ltb j 16) (member j) x) accepted-answer
 
   -- what a history and another have in common when played on two words
   record Twins (ws vs : List ℕ) (h g : History) : Type 0 where
@@ -148,7 +142,7 @@ module _ (member : ℕ → Bool) where
 
   -- a member is inside
   member-inside : (j : ℕ) → j < 16 → member j ≡ true → ins j ≡ true
-  member-inside j l h = or-right (eqb j 16) (ltb j 16 && member j) (and-intro (ltb j 16) (member j) (lt-ltb j 16 l) h)
+  member-inside j l h = issuer's member j l ∙ h
 
 pub noninterference : Noninterference
 noninterference member h₁ h₂ e q₁ q₂ = record {

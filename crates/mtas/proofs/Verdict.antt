@@ -7,21 +7,33 @@ use Prim.Native.Nat.{ℕ, suc}
 use Rattle.bits.specs.Bit.{digit}
 use Rattle.mtas.specs.State.{State, user-of}
 use Rattle.mtas.specs.Call.{Call, AddIssuer, RemoveIssuer, AssignTrust, RevokeTrust, AddUser, RemoveUser, AddRole, RemoveRole, AddPerm, RemovePerm, AssignUser, RevokeUser, AssignPerm, RevokePerm, AssignRH, RevokeRH, CreateSession, DeleteSession, AddActiveRole, DropActiveRole, CheckAccess}
-use Rattle.mtas.specs.Rule.{rule}
-use Rattle.mtas.specs.Answer.{Outcome, accepted, refused, outcome, decides-on, verdict-of, answer}
+use Rattle.mtas.specs.Rule.{Effect, puts, cuts, decides, rule}
+use Rattle.mtas.specs.Answer.{Outcome, accepted, refused, outcome, decides-on, verdict-of, reply, answer}
 use Rattle.mtas.specs.Layout.{view}
 use Rattle.mtas.specs.LawTest.{LawfulWords}
 use Rattle.mtas.specs.Record.{Request, undecodable, request, decode}
 use Rattle.mtas.specs.Monitor.{Result, turned-down, answered, monitor}
 use Rattle.mtas.specs.Decision.{Entitled}
-use Rattle.mtas.proofs.Guards.{refused-not-0}
 use Rattle.mtas.proofs.Step.{differ, refused-answer}
 use Rattle.mtas.proofs.Decision.{decision-iff}
-use Rattle.mtas.proofs.Monitor.{accepted-zero, monitor-lawful, monitor-cases}
+use Rattle.mtas.proofs.Monitor.{accepted-zero, zero-accepted, monitor-lawful, monitor-cases}
 
 digit-true : (b : Bool) → digit b ≡ 1 → b ≡ true
 digit-true true h = refl
 digit-true false h = absurd (differ h)
+
+-- every verdict is 1 or 0
+abbrev OneOr0 : ℕ → Type 0
+OneOr0 v = (v ≡ 1) ⊎ (v ≡ 0)
+
+digits : (x : Bool) → OneOr0 (digit x)
+digits true = inl refl
+digits false = inr refl
+
+effects : (st : State) (c : ℕ) (e : Effect) → OneOr0 (verdict-of st c e)
+effects st c (puts l) = inr refl
+effects st c (cuts f) = inr refl
+effects st c (decides p i s) = digits (decides-on st c p i s)
 
 -- 'The verdict is 1 only for kind 21'
 checks : (st : State) (c : ℕ) (k : Call) → verdict-of st c (rule (user-of st c) c k .effect) ≡ 1 → (p i s : ℕ) × (k ≡ CheckAccess p i s) × (decides-on st c p i s ≡ true)
@@ -83,7 +95,7 @@ module _ (ws b : List ℕ) where
 
   entitled : Entitled ws b → SaysYes (monitor ws b)
   unfolding answer
-  entitled E = ap (λ r. r .answer .verdict) (monitor-lawful ws b (E .lawful)) ∙ ap (λ x. answered (view ws) x .verdict) (E .is-check) ∙ on (outcome (view ws) (E .owner) call) refl
+  entitled E = ap (λ r. r .answer .verdict) (monitor-lawful ws b (E .lawful)) ∙ ap (λ x. answered (view ws) x .verdict) (E .is-check) ∙ yes (zero-accepted (view ws) (E .owner) call zero-told)
     where
       call : Call
       call = CheckAccess (E .asked) (E .its-issuer) (E .session)
@@ -91,9 +103,32 @@ module _ (ws b : List ℕ) where
       zero-told : answer (view ws) (E .owner) call .refusal ≡ 0
       zero-told = ap (λ x. answered (view ws) x .refusal) (sym (E .is-check)) ∙ ap (λ r. r .answer .refusal) (sym (monitor-lawful ws b (E .lawful))) ∙ E .is-accepted
 
-      on : (o : Outcome) → outcome (view ws) (E .owner) call ≡ o → answer (view ws) (E .owner) call .verdict ≡ 1
-      on accepted e = rw e (ap digit (decision-iff (view ws) (E .lawful .lawful) (E .owner) (E .asked) (E .its-issuer) (E .session) .1 (E .may)))
-      on (refused n) e = absurd (refused-not-0 (view ws) (E .owner) call n e (rw e at zero-told))
+      yes : outcome (view ws) (E .owner) call ≡ accepted → answer (view ws) (E .owner) call .verdict ≡ 1
+      yes e = rw e (ap digit (decision-iff (view ws) (E .lawful .lawful) (E .owner) (E .asked) (E .its-issuer) (E .session) .1 (E .may)))
 
   pub verdict-iff : ((monitor ws b) .answer .verdict ≡ 1) ↔ Entitled ws b
   verdict-iff = (said, entitled)
+
+  -- 'else 0'
+  two-verdicts : OneOr0 ((monitor ws b) .answer .verdict)
+  unfolding answer
+  two-verdicts = go (monitor-cases ws b)
+    where
+      replies : (st : State) (c : ℕ) (e : Effect) (o : Outcome) → OneOr0 (reply st c e o .verdict)
+      replies st c e accepted = effects st c e
+      replies st c e (refused n) = inr refl
+
+      by : (x : Request) → OneOr0 (answered (view ws) x .verdict)
+      by undecodable = inr refl
+      by (request c k) = replies (view ws) c (rule (user-of (view ws) c) c k .effect) (outcome (view ws) c k)
+
+      go : (LawfulWords ws) ⊎ ((n : ℕ) × (monitor ws b ≡ turned-down (suc n) ws)) → OneOr0 ((monitor ws b) .answer .verdict)
+      go (inl W) = rw (monitor-lawful ws b W) (by (decode b))
+      go (inr (n, e)) = inr (ap (λ r. r .answer .verdict) e)
+
+  pub else-0 : (Entitled ws b → ⊥) → (monitor ws b) .answer .verdict ≡ 0
+  else-0 n = go two-verdicts
+    where
+      go : OneOr0 ((monitor ws b) .answer .verdict) → (monitor ws b) .answer .verdict ≡ 0
+      go (inl e) = absurd (n (said e))
+      go (inr e) = e

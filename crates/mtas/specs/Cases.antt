@@ -2,16 +2,16 @@
 use mathlib.Core.Path.{_≡_}
 use mathlib.Core.List.{List, [], _∷_, _++_}
 use mathlib.Core.Bool.{false}
-use Prim.Native.Nat.{ℕ, _<_}
+use Prim.Native.Nat.{ℕ, _<_, _≤_}
 use lib.ListN.{length}
 use Rattle.mtas.specs.Fact.{Fact, enrolled, trusts, user, role, permission, holds, granted, attached, opened, active}
 use Rattle.mtas.specs.State.{State, nothing, put}
 use Rattle.mtas.specs.Answer.{Answer, accepts, refuses}
 use Rattle.mtas.specs.Layout.{encode, view}
 use Rattle.mtas.specs.Record.{record-of}
-use Rattle.mtas.specs.Monitor.{monitor}
+use Rattle.mtas.specs.Monitor.{initial-words, monitor}
 use Rattle.mtas.specs.Histories.{History, final}
-use Rattle.mtas.specs.Journal.{Line, played, end, broken, long, output}
+use Rattle.mtas.specs.Journal.{read-journal, Line, played, end, broken, long, lines-from, last-line, output}
 
 -- 'issuers 0 and 1 are enrolled, 0 trusts 1, 0@3 holds 0#2, 0#3 is present and unheld, 0/4 is open for 0@3 with role 2 active, and 1%5 is granted to 0#2; nothing else'
 abbrev pub S-facts : List Fact
@@ -53,6 +53,16 @@ two-links =
 abbrev two-links-and : List ℕ → History
 two-links-and b = two-links ++ (b ∷ [])
 
+-- Each estate's own calls once: 0@6 holds 0#7, active in 0/9; 1%8 is granted to 0#7.
+abbrev a-day : History
+a-day =
+    record-of 5 0 (6 ∷ []) ∷ record-of 7 0 (7 ∷ []) ∷ record-of 11 0 (6 ∷ 7 ∷ []) ∷ record-of 17 0 (9 ∷ 6 ∷ [])
+    ∷ record-of 19 0 (9 ∷ 7 ∷ []) ∷ record-of 9 1 (8 ∷ []) ∷ record-of 13 1 (8 ∷ 0 ∷ 7 ∷ []) ∷ []
+
+-- after a-day and one record more, 1 tries 8, 0, 9
+abbrev then-try : List ℕ → Answer → List Fact → Case
+then-try b a gone = try (a-day ++ (b ∷ [])) (record-of 21 1 (8 ∷ 0 ∷ 9 ∷ [])) a gone
+
 abbrev pub further-cases : List Case
 further-cases =
     -- 'Stopping after one attachment'
@@ -68,13 +78,24 @@ further-cases =
     ∷ try (record-of 15 0 (3 ∷ 0 ∷ 2 ∷ []) ∷ []) (record-of 15 0 (2 ∷ 0 ∷ 3 ∷ [])) (refuses 13) (attached 0 2 0 3 ∷ [])
     -- striking takes the roles in others' words
     ∷ try (two-links-and (record-of 2 16 (1 ∷ []))) (record-of 21 1 (5 ∷ 0 ∷ 4 ∷ [])) (refuses 5) (attached 1 6 0 3 ∷ granted 1 5 1 6 ∷ trusts 0 1 ∷ [])
+    -- a user, a role, a permission added, a role given, activated and used; then one of them removed, taken or closed
+    ∷ try a-day (record-of 21 1 (8 ∷ 0 ∷ 9 ∷ [])) (accepts 1) []
+    ∷ then-try (record-of 6 0 (6 ∷ [])) (accepts 0) (user 0 6 ∷ holds 0 6 7 ∷ opened 0 9 6 ∷ [])
+    ∷ then-try (record-of 8 0 (7 ∷ [])) (accepts 0) (role 0 7 ∷ holds 0 6 7 ∷ active 0 9 6 7 ∷ granted 1 8 0 7 ∷ [])
+    ∷ then-try (record-of 10 1 (8 ∷ [])) (refuses 10) (permission 1 8 ∷ granted 1 8 0 7 ∷ [])
+    ∷ then-try (record-of 12 0 (6 ∷ 7 ∷ [])) (accepts 0) (holds 0 6 7 ∷ active 0 9 6 7 ∷ [])
+    ∷ then-try (record-of 18 0 (9 ∷ [])) (accepts 0) (opened 0 9 6 ∷ active 0 9 6 7 ∷ [])
+    -- a session of an issuer that isn't enrolled: no cause of refusal
+    ∷ try [] (record-of 21 1 (5 ∷ 7 ∷ 4 ∷ [])) (accepts 0) (enrolled 7 ∷ [])
     -- refusal 3's row: the empty record, a length field too large, kinds 22 and 257, an argument too few
     ∷ try [] [] (refuses 3) []
     ∷ try [] (7 ∷ 0 ∷ 3 ∷ 0 ∷ 0 ∷ 1 ∷ []) (refuses 3) []
     ∷ try [] (record-of 22 0 (1 ∷ [])) (refuses 3) []
     ∷ try [] (6 ∷ 0 ∷ 1 ∷ 1 ∷ 16 ∷ 2 ∷ []) (refuses 3) []
     ∷ try [] (record-of 21 1 (5 ∷ 0 ∷ [])) (refuses 3) []
-    -- refusal 4 before 5 and 6; 5 before 6
+    -- refusal 4: an issuer enrols, the operator gives trust; before 5 and 6; 5 before 6
+    ∷ try [] (record-of 1 0 (2 ∷ [])) (refuses 4) []
+    ∷ try [] (record-of 3 16 (1 ∷ [])) (refuses 4) []
     ∷ try [] (record-of 3 17 (16 ∷ [])) (refuses 4) []
     ∷ try [] (record-of 3 2 (16 ∷ [])) (refuses 5) []
     ∷ []
@@ -116,3 +137,4 @@ pub record JournalEnds : Type 0 where
   pub below-5 : output (4 ∷ 0 ∷ 1 ∷ 0 ∷ []) ≡ broken 0 ∷ []
   pub past-the-end : output (6 ∷ 0 ∷ 1 ∷ 0 ∷ 16 ∷ []) ≡ broken 0 ∷ []
   pub too-long : (j : List ℕ) → 65536 < length j → output j ≡ long ∷ []
+  pub not-too-long : (j : List ℕ) → length j ≤ 65536 → output j ≡ lines-from 1 initial-words (read-journal j .records) ++ (last-line (read-journal j .records) (read-journal j .ending) ∷ [])

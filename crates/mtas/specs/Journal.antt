@@ -61,10 +61,13 @@ abbrev pub last-line : History → Ending → Line
 last-line h complete = end (length h)
 last-line h (broken-at k) = broken k
 
+abbrev pub journal-limit : ℕ
+journal-limit = 65536
+
 -- 'Over 65,536 bytes it prints only long'
 unfoldable pub output : List ℕ → List Line
 output j =
-    elim (ltb 65536 (length j)) [
+    elim (ltb journal-limit (length j)) [
       | true ↦ long ∷ []
       | false ↦
           lines-from 1 initial-words (read-journal j .records) ++ (last-line (read-journal j .records) (read-journal j .ending) ∷ [])

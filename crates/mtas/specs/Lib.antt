@@ -10,8 +10,12 @@ pub mod Cascades
 pub mod Layout
 pub mod LawTest
 pub mod Record
+pub mod Refusals
 pub mod Monitor
 pub mod Decision
+pub mod Access
+pub mod Disclosure
 pub mod Histories
+pub mod Remaining
 pub mod Journal
 pub mod Cases

@@ -9,7 +9,7 @@ use Rattle.mtas.specs.State.{State}
 use Rattle.mtas.specs.Answer.{Answer, accepts, refuses, answer, next}
 use Rattle.mtas.specs.Layout.{Cell, sixteen, its-user, in-session, cell, word-at, state-length, view, encode}
 use Rattle.mtas.specs.LawTest.{lawful-words}
-use Rattle.mtas.specs.Record.{Request, undecodable, request, decode}
+use Rattle.mtas.specs.Record.{Request, undecodable, request, bytes-refusal, decode}
 
 -- a call's answer, and the words that it leaves
 pub record Result : Type 0 where
@@ -35,7 +35,7 @@ start ws = elim (eqb (length ws) state-length) [ false ↦ turned-down 1 ws | tr
 
 -- a decoded record on a lawful state: refusal 3, or the table's answer
 abbrev pub answered : State → Request → Answer
-answered st undecodable = refuses 3
+answered st undecodable = refuses (bytes-refusal undecodable)
 answered st (request c k) = answer st c k
 
 abbrev pub state-after : State → Request → State

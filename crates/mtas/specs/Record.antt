@@ -53,6 +53,11 @@ pub data Request : Type 0 where
   undecodable : Request
   request : ℕ → Call → Request
 
+-- the refusal that its bytes alone give it, 0 for none
+abbrev pub bytes-refusal : Request → ℕ
+bytes-refusal undecodable = 3
+bytes-refusal (request c k) = 0
+
 -- exactly the arguments of the kind
 abbrev pub fill : ℕ → Kind → List ℕ → Request
 fill c unknown l = undecodable

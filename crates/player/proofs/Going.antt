@@ -16,7 +16,7 @@ use Rattle.mtas.specs.Layout.{state-length}
 use Rattle.mtas.specs.Record.{kind-of, caller-of}
 use Rattle.mtas.specs.Monitor.{monitor, start}
 use Rattle.mtas.specs.Histories.{final}
-use Rattle.mtas.specs.Journal.{Ending, complete, broken-at, Reading, whole, first-of, read-from, played, end, broken, long, lines-from, last-line, output, read-journal}
+use Rattle.mtas.specs.Journal.{Ending, complete, broken-at, Reading, whole, first-of, read-from, played, end, broken, long, lines-from, last-line, journal-limit, output, read-journal}
 use Rattle.journal.specs.Found.{found-of, Inside}
 use Rattle.journal.specs.declared.Found.{Found}
 use Rattle.journal.specs.declared.Found.the-variants.{NoMore, Whole, Partial}
@@ -30,7 +30,7 @@ use Rattle.player.specs.Played.{room, left-by, Played}
 use Rattle.player.specs.Turned.{Turned}
 
 -- ---- one turn, by what was found
-module _ {ws left : List ℕ} {at count : ℕ} {found : Found} {line : Buffer} (near : at ≤ 65536) (early : count ≤ at) where
+module _ {ws left : List ℕ} {at count : ℕ} {found : Found} {line : Buffer} (near : at ≤ journal-limit) (early : count ≤ at) where
   pub turn-played : {ws′ bytes : List ℕ} {len kind caller refusal verdict : ℕ} → found ≡ Whole len → bytes ≡ take len left
       → Gives (monitor ws bytes) refusal verdict ws′ → kind ≡ kind-of bytes → caller ≡ caller-of bytes
       → Exactly line (text-of (played (count + 1) kind caller refusal verdict)) × (count + 1 < 100000 → line .len ≤ 28)
@@ -69,7 +69,7 @@ rest-whole journal at count len f l m =
 
 -- what was played and what is to come are the journal's records, and its last line is to come
 pub record Going (journal ws out : List ℕ) (used at count : ℕ) : Type 0 where
-  pub short : length journal ≤ 65536
+  pub short : length journal ≤ journal-limit
   pub inside : at ≤ length journal
   pub few : 5 * count ≤ at
   pub fits : used ≤ 28 * count
@@ -79,11 +79,11 @@ pub record Going (journal ws out : List ℕ) (used at count : ℕ) : Type 0 wher
   pub printed : take used out ++ text-of-all (lines-from (suc count) ws (rest journal at count .records) ++ (last-line (read-journal journal .records) (read-journal journal .ending) ∷ [])) ≡ text-of-all (output journal)
   pub leaves : (before : List ℕ) → final ws (rest journal at count .records) ≡ left-by before journal
 
-pub going-start : (ws : List ℕ) {journal vs out : List ℕ} {refusal verdict : ℕ} → length ws ≡ state-length → Gives (start ws) refusal verdict vs → length journal ≤ 65536 → length out ≡ room → Going journal vs out 0 0 0
+pub going-start : (ws : List ℕ) {journal vs out : List ℕ} {refusal verdict : ℕ} → length ws ≡ state-length → Gives (start ws) refusal verdict vs → length journal ≤ journal-limit → length out ≡ room → Going journal vs out 0 0 0
 unfolding start output left-by
 going-start ws {journal} n v l m =
     let e : length journal - 0 ≡ length journal = omega arith in
-    let t = le-ltb 65536 (length journal) l in
+    let t = le-ltb journal-limit (length journal) l in
     rw (v .same-words, eq-eqb (length ws) state-length n, start) (record {
       short = l;
       inside = omega arith;
@@ -141,8 +141,8 @@ going-end {found = Whole len} g f k t a = absurd (⊎-elim (λ e. omega arith) (
 going-end {at = at} {found = Partial} g f k t a = rw (t .words) (ends (broken-at at) g (rw (sym f, read-from)) (λ n. t .text) a)
 
 -- a journal that is too long isn't played
-pub too-long : {ws journal out out′ : List ℕ} {used : ℕ} {line : Buffer} → 65536 < length journal → length out ≡ room → Exactly line (text-of long) → Appended 0 line used out out′ → Played ws journal ws used out′
+pub too-long : {ws journal out out′ : List ℕ} {used : ℕ} {line : Buffer} → journal-limit < length journal → length out ≡ room → Exactly line (text-of long) → Appended 0 line used out out′ → Played ws journal ws used out′
 unfolding output left-by text-of-all
 too-long {ws} {journal} l m w a =
-    let t = lt-ltb 65536 (length journal) l in
+    let t = lt-ltb journal-limit (length journal) l in
     record { inside = omega arith; text = rw (t, output) (a .text ∙ w .same ∙ sym (append-nil (text-of long))); words = rw (t, left-by) }

@@ -7,7 +7,7 @@ use lib.Dec.{ltb}
 use lib.ListN.{length, take}
 use Rattle.mtas.specs.Monitor.{initial-words}
 use Rattle.mtas.specs.Histories.{final}
-use Rattle.mtas.specs.Journal.{read-journal, output}
+use Rattle.mtas.specs.Journal.{read-journal, output, journal-limit}
 use Rattle.lines.specs.Text.{text-of-all}
 
 -- the bytes for the text of any journal: a line of 28 for each of at most 13,107 records, and a last one of 64
@@ -16,7 +16,7 @@ room = 367060
 
 -- the words that a journal leaves: one that is too long isn't played
 unfoldable pub left-by : List ℕ → List ℕ → List ℕ
-left-by ws journal = elim (ltb 65536 (length journal)) [ true ↦ ws | false ↦ final initial-words (read-journal journal .records) ]
+left-by ws journal = elim (ltb journal-limit (length journal)) [ true ↦ ws | false ↦ final initial-words (read-journal journal .records) ]
 
 -- bytes of out behind the text are the player's own
 pub record Played (before journal after : List ℕ) (used : ℕ) (out : List ℕ) : Type 0 where

@@ -3,6 +3,7 @@ ghost use mathlib.Core.Path.{_≡_};
 ghost use Prim.Native.Nat.{_≤_};
 ghost use lib.ListN.{length, drop};
 ghost use Rattle.mtas.specs.Layout.{state-length};
+ghost use Rattle.mtas.specs.Journal.{journal-limit};
 ghost use Rattle.journal.specs.Found.{Inside};
 ghost use Rattle.player.specs.Played.{room, Played};
 ghost use Rattle.player.specs.Turned.{Turned};
@@ -15,7 +16,7 @@ use lines::Buffer;
 
 // One turn, behind count records: what was found at a place is played if it is a whole record. Answers the line to print, the record's or the last one.
 fn turn(state: &mut [u16], journal: &[u8], at: usize, found: Found, count: u32) -> Buffer
-    requires { ⌜ Inside (now journal) at found × (at ≤ 65536) × (count ≤ at) ⌝ }
+    requires { ⌜ Inside (now journal) at found × (at ≤ journal-limit) × (count ≤ at) ⌝ }
     ensures { λ r. ⌜ Turned (now (state .entry)) (drop at (now (journal .entry))) at count found (now (state .exit)) r ⌝ }
 {
     match found {

@@ -1,5 +1,5 @@
 -- The model's `decode` of the bytes b, from what the code's tests say of them.
-use mathlib.Core.Path.{_≡_, sym, _∙_}
+use mathlib.Core.Path.{_≡_, ap, sym, _∙_}
 use mathlib.Core.Bool.{and-false}
 use mathlib.Core.List.{List}
 use Prim.Native.Nat.{ℕ, _-_, _<_, _≤_}
@@ -7,7 +7,10 @@ use borrow.Author.Tests.{le-leb, lt-leb, eq-eqb, ne-eqb}
 use borrow.Rule.Slice.PartAt.{part-to-end}
 use lib.Dec.{leb}
 use lib.ListN.{length, take, drop}
-use Rattle.mtas.specs.Record.{Request, undecodable, kind-at, fill, header, two-bytes, kind-of, caller-of, decode}
+use Rattle.mtas.specs.Record.{Request, undecodable, bytes-refusal, kind-at, fill, header, two-bytes, kind-of, caller-of, decode}
+use Rattle.record.specs.Decoded.{request-of, Decodes}
+use Rattle.record.specs.declared.Decoded.{Decoded}
+use Rattle.record.specs.declared.Decoded.the-variants.{Request as Requested, Undecodable}
 
 module _ (b : List ℕ) where
   pub short : length b < header → undecodable ≡ decode b
@@ -24,3 +27,8 @@ module _ (b : List ℕ) where
   unfolding decode
   right-length n k q h e s g f =
       f ∙ rw (part-to-end, le-leb header (length b) h, eq-eqb (two-bytes b 0) (length b) (sym e ∙ s), g, decode)
+
+-- what the request is, the refusal follows
+pub decodes : {b : List ℕ} (d : Decoded) → request-of d ≡ decode b → Decodes b d
+decodes (Requested c k) e = record { same-refusal = ap bytes-refusal e; same-request = e }
+decodes Undecodable e = record { same-refusal = ap bytes-refusal e; same-request = e }

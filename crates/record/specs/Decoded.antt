@@ -6,7 +6,7 @@ use Prim.Native.Nat.{ℕ}
 use lib.Dec.{eqb}
 use lib.ListN.{length, getD}
 use Rattle.mtas.specs.Call as model
-use Rattle.mtas.specs.Record.{Request, request, undecodable, kind-at, fill}
+use Rattle.mtas.specs.Record.{Request, request, undecodable, bytes-refusal, kind-at, fill, decode}
 use Rattle.record.specs.declared.Call.{Call}
 use Rattle.record.specs.declared.Call.the-variants.{AddIssuer, RemoveIssuer, AssignTrust, RevokeTrust, AddUser, RemoveUser, AddRole, RemoveRole, AddPerm, RemovePerm, AssignUser, RevokeUser, AssignPerm, RevokePerm, AssignRH, RevokeRH, CreateSession, DeleteSession, AddActiveRole, DropActiveRole, CheckAccess}
 use Rattle.record.specs.declared.Decoded.{Decoded}
@@ -42,6 +42,16 @@ call-of (CheckAccess p i s) = model.CheckAccess p i s
 abbrev pub request-of : Decoded → Request
 request-of (Requested c k) = request c (call-of k)
 request-of Undecodable = undecodable
+
+-- document 01's number for it: 3 where it can't be decoded, else none yet
+abbrev pub refusal-of : Decoded → ℕ
+refusal-of (Requested c k) = 0
+refusal-of Undecodable = 3
+
+-- the bytes b are decoded into d: its number, and the caller and the call
+pub record Decodes (b : List ℕ) (d : Decoded) : Type 0 where
+  pub same-refusal : refusal-of d ≡ bytes-refusal (decode b)
+  pub same-request : request-of d ≡ decode b
 
 -- the request of a caller with a kind and n arguments
 abbrev pub filled : ℕ → Kind → ℕ → Request

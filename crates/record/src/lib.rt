@@ -1,8 +1,8 @@
 // The call record: its bytes decoded into a caller and one of twenty-one calls, and a call's arguments.
 ghost use mathlib.Core.Path.{_≡_};
 ghost use lib.ListN.{getD};
-ghost use Rattle.mtas.specs.Record.{kind-at, fill, decode};
-ghost use Rattle.record.specs.Decoded.{call-of, request-of, Formed};
+ghost use Rattle.mtas.specs.Record.{kind-at, fill};
+ghost use Rattle.record.specs.Decoded.{call-of, request-of, Decodes, Formed};
 ghost use Rattle.record.specs.Padding.{Padded};
 
 // The bytes before the arguments: length, kind and caller.
@@ -103,7 +103,7 @@ fn fill(caller: u8, kind: u16, bytes: &[u8]) -> Decoded
 
 // Decodes any bytes, of any length.
 pub fn decode(record: &[u8]) -> Decoded
-    ensures { λ r. ⌜ request-of r ≡ decode (now («record» .entry)) ⌝ }
+    ensures { λ r. ⌜ Decodes (now («record» .entry)) r ⌝ }
 {
     let length = record.len();
     if length < HEADER {

@@ -1,7 +1,7 @@
 -- `record::decode` meets its contract: the tests that led to a `return` say which case of the model's `decode` holds.
 use borrow.Author.Needs.{needs}
 use native.Mathlib.Omega.{arith}
-use Rattle.record.proofs.Bytes.{short, wrong-length, right-length}
+use Rattle.record.proofs.Bytes.{short, wrong-length, right-length, decodes}
 use Rattle.record.proofs.decode.Statement.{statement}
 use Rattle.record.proofs.decode.Tie as tie
 
@@ -9,12 +9,12 @@ pub decode-spec : {M : Type 1} → statement M
 decode-spec =
     tie.close
     (tie.spec
-    (λ c. short _ (omega arith))
+    (λ c. decodes _ (short _ (omega arith)))
     (λ c. search needs)
     (λ c. search needs)
     (λ c κs. search needs)
     (λ c. search needs)
-    (λ c. wrong-length _ (λ q. omega arith))
+    (λ c. decodes _ (wrong-length _ (λ q. omega arith)))
     (λ c. search needs)
     (λ c. search needs)
     (λ c κs. search needs)
@@ -23,4 +23,4 @@ decode-spec =
     (λ c. search needs)
     (λ c. search needs)
     (λ c κs. search needs)
-    (λ c. search right-length))
+    (λ c. decodes _ (search right-length)))
