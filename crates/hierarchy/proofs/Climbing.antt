@@ -9,7 +9,7 @@ use native.Mathlib.Omega.{arith}
 use borrow.Author.Tests.{eqb-true, eq-eqb, not-true}
 use lib.Bits.{bitAnd, bitOr, or-lt}
 use lib.Dec.{eqb}
-use lib.ListN.{length, getD, set, replicate}
+use lib.ListN.{length, getD, set}
 use lib.Seq.{getD-set-same, getD-set-other}
 use Rattle.bits.specs.Below.{tally}
 use Rattle.bits.specs.Bit.{bit, without-bit}
@@ -17,7 +17,6 @@ use Rattle.bits.specs.RoleSet.{in-set, Row, Union}
 use Rattle.bits.proofs.Below.{tally-le, tally-more}
 use Rattle.bits.proofs.Bit.{bit-0, bit-and, bit-or, bit-not, bit-without}
 use Rattle.bits.proofs.Booleans.{clash, and-left, and-right, and-intro, and-not, or-cases, or-left, or-right}
-use Rattle.bits.proofs.Roles.{in-empty}
 use Rattle.mtas.specs.Hierarchy.{Role, _#_, Graph, Reaches, itself, down}
 use Rattle.mtas.proofs.Hierarchy.{Numbered, then}
 use Rattle.hierarchy.specs.Links.{linked, among, Subset, Reaching, ReachesInto}
@@ -234,11 +233,11 @@ module _ {e : Graph} (num : Numbered e) (n : ℕ) (ln : n < 16) (seen′ done′
             go false z = lift .seniors (b .number) m x (λ h. word-bit (b .number) m ∙ and-intro (in-set seen′ n (b .number)) _ h (ap not z)) a (rw p t)
 
 -- ---- the whole walk
-pub climb-begins : {e : Graph} {s : List ℕ} → Climbing e s s (replicate 16 0)
-climb-begins = record {
+pub climb-begins : {e : Graph} {s none : List ℕ} → ((i r : ℕ) → in-set none i r ≡ false) → Climbing e s s none
+climb-begins empty = record {
   begun = subset-itself;
   sound = λ a l m h. (a, l, m, h, itself);
-  closed = λ a b l m h. absurd (clash h (in-empty (b .issuer) (b .number)));
+  closed = λ a b l m h. absurd (clash h (empty (b .issuer) (b .number)));
 }
 
 pub climb-ends : {e : Graph} {from seen done : List ℕ} → Numbered e → Climbing e from seen done → Subset seen done → Reaching e from seen

@@ -117,8 +117,10 @@ fn fill(links: &[u16], mut freed: RoleSet, slide: &[u16]) -> RoleSet
 fn full(set: RoleSet) -> bool
     ensures { λ r. ⌜ (r ≡ true) ↔ Full (set .words) ⌝ }
 {
-    let every = [65535u16; 16];
-    bits::gather_row(&every, 0, set) == 0
+    let every = RoleSet {
+        words: [65535u16; 16],
+    };
+    bits::gather_row(&every.words, 0, set) == 0
 }
 
 // Whether no role reaches itself by one or more attachments. With seniors before juniors one visit frees each role; sweeps decide the rest.

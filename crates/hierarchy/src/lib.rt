@@ -43,30 +43,28 @@ fn lift(links: &[u16], i: usize, word: u16, mut seen: RoleSet) -> RoleSet
 
 // A climb: the roles seen, and those whose direct seniors are seen too.
 struct Climb {
-    seen: [u16; 16],
-    done: [u16; 16],
+    seen: RoleSet,
+    done: RoleSet,
 }
 
 // Every role seen is done, issuer by issuer.
 fn round(links: &[u16], from: Climb) -> Climb
     requires { ⌜ length (now links) ≡ links-length ⌝ }
-    ensures { λ r. ⌜ Climbed (linked (now (links .entry))) (from .seen) (from .done) (r .seen) (r .done) ⌝ }
+    ensures { λ r. ⌜ Climbed (linked (now (links .entry))) (from .seen .words) (from .done .words) (r .seen .words) (r .done .words) ⌝ }
 {
-    let words = from.seen;
-    let mut seen = RoleSet { words };
+    let mut seen = from.seen;
     let mut done = from.done;
     for i in 0..16 {
-        let d = done[i];
+        let d = done.words[i];
         let s = seen.words[i];
         let word = s & !d;
         if word != 0 {
             seen = lift(links, i, word, seen);
             let lifted = seen.words[i];
-            done[i] = d | lifted;
+            done.words[i] = d | lifted;
         }
     }
-    let words = seen.words;
-    Climb { seen: words, done }
+    Climb { seen, done }
 }
 
 // The roles that reach one of a set.
@@ -74,12 +72,12 @@ pub fn above(links: &[u16], set: RoleSet) -> RoleSet
     requires { ⌜ length (now links) ≡ links-length ⌝ }
     ensures { λ r. ⌜ Reaching (linked (now (links .entry))) (set .words) (r .words) ⌝ }
 {
-    let mut seen = set.words;
-    let mut done = [0u16; 16];
-    while bits::gather_row(&seen, 0, RoleSet { words: done }) != 0 {
+    let mut seen = set;
+    let mut done = RoleSet::empty();
+    while bits::gather_row(&seen.words, 0, done) != 0 {
         let next = round(links, Climb { seen, done });
         seen = next.seen;
         done = next.done;
     }
-    RoleSet { words: seen }
+    seen
 }

@@ -66,7 +66,8 @@ fn to_index(b: u8) -> usize
 }
 
 // The roles outside a set, seniors before juniors where there is such an order: a search in depth, from junior to senior.
-// In that case 511 steps are enough, 255 up and 256 back. Only its bound is promised, since any order is right.
+// Without a circle no role is on the path twice, or both there and in the order; on one the path grows until the two have 256, and the search ends.
+// Only its bound is promised, since any order is right.
 pub fn search(links: &[u16], tops: RoleSet) -> Order
     requires { ⌜ length (now links) ≡ links-length ⌝ }
     ensures { λ r. ⌜ r .count ≤ 256 ⌝ }
@@ -81,22 +82,16 @@ pub fn search(links: &[u16], tops: RoleSet) -> Order
     let mut path = [0u8; 256];
     let mut depth = 0;
     let mut role = first_left(&left);
-    for step in 0usize..512 {
-        if role == 256 {
-            return Order { roles, count };
+    while role < 256 {
+        if depth + count == 256 {
+            break;
         }
         let senior = first_senior(links, role, &left);
         if senior < 256 {
-            if depth == 256 {
-                return Order { roles, count };
-            }
             path[depth] = role as u8;
             depth = depth + 1;
             role = senior;
         } else {
-            if count == 256 {
-                return Order { roles, count };
-            }
             left[role / 64] = left[role / 64] & !(1u64 << (role % 64));
             roles[count] = role as u8;
             count = count + 1;

@@ -5,7 +5,7 @@ use Rattle.hierarchy.proofs.circles.full.Statement.{statement}
 use Rattle.hierarchy.proofs.circles.full.Tie as tie
 
 returns : tie.Need-returns
-returns c = let wide : Wide (c .before .before .args .set .words) = search needs in tells-full wide (c .gather-row .ensures)
+returns c = let wide : Wide (c .before .before .before .before .args .set .words) = search needs in tells-full wide (c .gather-row .ensures)
 
 pub full-spec : {M : Type 1} → statement M
-full-spec = tie.close (tie.spec (λ c. search needs) (λ c κs. search needs) returns)
+full-spec = tie.close (tie.spec (λ c κs. search needs) returns)
