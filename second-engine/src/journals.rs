@@ -7,7 +7,7 @@ use crate::engine::{Answer, Desk};
 use crate::lawful::{broken_laws, lawful};
 use crate::random::Random;
 use crate::records::any_record;
-use crate::report::{report, shortened, size};
+use crate::report::{announce, report, shortened, size};
 use crate::sets::{Sets, WORDS};
 use crate::side_by_side::{SideBySide, Step};
 use crate::worlds::World;
@@ -29,7 +29,8 @@ pub fn play_journals(seed: u64, calls: u64, trace: bool, counts: &mut Counts) ->
         if let Some(steps) = random_journal(&mut random, length, trace, counts) {
             let (journal, step) = (counts.journals, steps.len());
             let found = format!("journal {journal} of seed {seed}, step {step}");
-            return report(&found, shortest(&mut seeds, steps));
+            announce(&format!("{found}, after {} calls", counts.calls));
+            return report(shortest(&mut seeds, steps));
         }
     }
     true
@@ -58,13 +59,16 @@ fn play_cases(trace: bool, counts: &mut Counts) -> bool {
         let records = state_s().into_iter().chain(case.records);
         let steps: Vec<Step> = records.map(Step::Call).collect();
         let Ok(mut both) = SideBySide::started(trace) else {
-            return report("starting", steps);
+            announce("starting, after 0 calls");
+            return report(steps);
         };
         let mut last = None;
         for step in &steps {
             last = play(&mut both, step, counts);
             if last.is_none() {
-                return report(&format!("case {}", case.name), steps);
+                let (name, calls) = (case.name, counts.calls);
+                announce(&format!("case {name}, after {calls} calls"));
+                return report(steps);
             }
         }
         if last.map(|answer| (answer.refusal, answer.verdict)) != Some(case.expected) {

@@ -1,6 +1,8 @@
 //! The library under test. Words and records are lent to it between guards, which it must
 //! leave as they were.
 
+use crate::patience::came_back;
+
 #[link(name = "yermoitu", kind = "static")]
 extern "C" {
     fn yermoitu_start(state: *mut u16, words: usize) -> u64;
@@ -47,6 +49,7 @@ impl Lent {
         let lent = self.cells.as_mut_ptr().wrapping_add(GUARD);
         // The pointer has `words` words behind it that nobody else uses.
         let packed = unsafe { yermoitu_start(lent, self.words) };
+        came_back();
         let overwritten = self.overwritten();
         Given {
             packed,
@@ -65,6 +68,7 @@ impl Lent {
         let held = bytes.as_mut_ptr().wrapping_add(before);
         // Both pointers have their lengths behind them, and nobody else uses them meanwhile.
         let packed = unsafe { yermoitu_call(lent, self.words, held, record.len()) };
+        came_back();
 
         let after = before + record.len();
         let overwritten = if bytes[before..after] != *record {

@@ -19,6 +19,7 @@ mod lawful_states;
 mod library;
 mod pair_counts;
 mod pairs;
+mod patience;
 mod random;
 mod record;
 mod records;
@@ -36,12 +37,15 @@ use pair_counts::PairCounts;
 use std::env;
 use std::process::ExitCode;
 
-const USAGE: &str = "second-engine [--calls N] [--pairs N] [--seed N] [--trace]";
+const USAGE: &str =
+    "second-engine [--calls N] [--pairs N] [--seed N] [--patience SECONDS] [--trace]";
 
 struct Options {
     calls: u64,
     pairs: u64,
     seed: u64,
+    /// The seconds in which some call must come back.
+    patience: u64,
     /// Prints every step before it is played, for a library that doesn't come back.
     trace: bool,
 }
@@ -51,6 +55,7 @@ fn options() -> Option<Options> {
         calls: 300_000,
         pairs: 300,
         seed: 20_260_101,
+        patience: 60,
         trace: false,
     };
     let mut arguments = env::args().skip(1);
@@ -59,6 +64,7 @@ fn options() -> Option<Options> {
             "--calls" => options.calls = arguments.next()?.parse().ok()?,
             "--pairs" => options.pairs = arguments.next()?.parse().ok()?,
             "--seed" => options.seed = arguments.next()?.parse().ok()?,
+            "--patience" => options.patience = arguments.next()?.parse().ok()?,
             "--trace" => options.trace = true,
             _ => return None,
         }
@@ -75,8 +81,10 @@ fn main() -> ExitCode {
         calls,
         pairs,
         seed,
+        patience,
         trace,
     } = options;
+    patience::watch(patience);
     println!("seed                      {seed}");
     let mut missing = Vec::new();
     if calls > 0 {

@@ -4,7 +4,7 @@ use crate::histories::{any_pair, outsiders, trusts_a_member, In, Pair};
 use crate::library::Lent;
 use crate::pair_counts::PairCounts;
 use crate::random::Random;
-use crate::report::report;
+use crate::report::{announce, report};
 use crate::sets::{
     attachment_word, grant_word, held_word, own, permissions_word, roles_word, session_word,
     trust_word, users_word, Sets, WORDS,
@@ -31,7 +31,10 @@ pub fn play_pairs(seed: u64, pairs: u64, trace: bool, counts: &mut PairCounts) -
         for which in [In::First, In::Second] {
             match play_beside_engine(&pair.history(which), trace) {
                 Ok(played) => both.push(played),
-                Err(steps) => return report(&whence, steps),
+                Err(steps) => {
+                    announce(&whence);
+                    return report(steps);
+                }
             }
         }
         if let Some(broken) = broken_claim(&pair, &both[0], &both[1]) {

@@ -3,11 +3,16 @@
 use crate::shrink::shrink;
 use crate::side_by_side::{replay, Step};
 
-/// Shortens the failing list and prints it. Gives `false`.
-pub fn report(found: &str, steps: Vec<Step>) -> bool {
-    let steps = shortened(steps);
+/// Says at once where a disagreement was found, before the list is shortened.
+pub fn announce(found: &str) {
     println!("DISAGREEMENT in {found}");
-    println!("shortest failing list found, from the start:");
+}
+
+/// Shortens the failing list and prints it. Gives `false`.
+pub fn report(steps: Vec<Step>) -> bool {
+    let steps = shortened(steps);
+    let count = steps.len();
+    println!("shortest failing list found, from the start, steps {count}:");
     for step in &steps {
         println!("{step}");
     }
