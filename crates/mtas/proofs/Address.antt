@@ -104,15 +104,15 @@ word-at-numbered k l = (located k l) .numbered
 -- every word but the first stands in some issuer's name
 owner-below : (w : Word) → Below16 (word-numbers w) → 0 < address w → owner w < 16
 owner-below enrolled-issuers h n = absurd (omega arith)
-owner-below (trusted i) h n = h .0
-owner-below (users i) h n = h .0
-owner-below (roles i) h n = h .0
-owner-below (permissions i) h n = h .0
-owner-below (held i u) h n = h .0
-owner-below (holders j p i) h n = h .0
-owner-below (seniors j q i) h n = h .0
-owner-below (session-user i s) h n = h .0
-owner-below (active-roles i s) h n = h .0
+owner-below (trusted i) h n = omega arith
+owner-below (users i) h n = omega arith
+owner-below (roles i) h n = omega arith
+owner-below (permissions i) h n = omega arith
+owner-below (held i u) h n = omega arith
+owner-below (holders j p i) h n = omega arith
+owner-below (seniors j q i) h n = omega arith
+owner-below (session-user i s) h n = omega arith
+owner-below (active-roles i s) h n = omega arith
 
 pub owned : (k : ℕ) → 0 < k → k < state-length → owner (word-at k) < 16
 owned k p l = owner-below (word-at k) (word-at-numbered k l) (rw (address-word-at k l) p)
