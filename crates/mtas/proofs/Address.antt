@@ -7,7 +7,8 @@ use native.Mathlib.Omega.{arith}
 use lib.Dec.{ltb, eqb}
 use borrow.Author.Tests.{ltb-true, ltb-false, eqb-true, eqb-false, lt-ltb, le-ltb}
 use Rattle.mtas.specs.Fact.{Below16}
-use Rattle.mtas.specs.Layout.{Word, enrolled-issuers, trusted, users, roles, permissions, held, holders, seniors, session-user, active-roles, trusted-at, users-at, roles-at, permissions-at, held-at, holders-at, seniors-at, sessions-at, state-length, address, Region, regions, word-in, word-at, owner}
+use Rattle.mtas.specs.Places.{Places}
+use Rattle.mtas.specs.Layout.{Word, enrolled-issuers, trusted, users, roles, permissions, held, holders, seniors, session-user, active-roles, public-roles, trusted-at, users-at, roles-at, permissions-at, held-at, holders-at, seniors-at, sessions-at, public-at, state-length, address, Region, regions, word-in, word-at, owner}
 
 ruleset tests = (arith, ltb-true, ltb-false, eqb-true, eqb-false)
 
@@ -22,6 +23,7 @@ word-numbers (holders j p i) = j ∷ p ∷ i ∷ []
 word-numbers (seniors j q i) = j ∷ q ∷ i ∷ []
 word-numbers (session-user i s) = i ∷ s ∷ []
 word-numbers (active-roles i s) = i ∷ s ∷ []
+word-numbers (public-roles i) = i ∷ []
 
 pub address-below : (w : Word) → Below16 (word-numbers w) → address w < state-length
 address-below enrolled-issuers h = omega arith
@@ -34,6 +36,7 @@ address-below (holders j p i) h = omega arith
 address-below (seniors j q i) h = omega arith
 address-below (session-user i s) h = omega arith
 address-below (active-roles i s) h = omega arith
+address-below (public-roles i) h = omega arith
 
 -- the first n regions begin at k or before it, and the next one doesn't
 abbrev Begun : ℕ → List Region → ℕ → Type 0
@@ -79,6 +82,7 @@ word-at-address (session-user i s) h =
 word-at-address (active-roles i s) h =
     found 8 regions enrolled-issuers _ (omega arith)
     ∙ either (λ w. w ≡ active-roles i s) (eqb ((address (active-roles i s) - sessions-at) % 2) 0) (λ e. absurd (omega tests)) (λ e. ap₂ active-roles (omega arith) (omega arith))
+word-at-address (public-roles i) h = found 9 regions enrolled-issuers _ (omega arith) ∙ ap public-roles (omega arith)
 
 -- w has the address k, and numbers below 16
 record At (k : ℕ) (w : Word) : Type 0 where
@@ -93,7 +97,7 @@ located k l =
     either (At k) (ltb k roles-at) (omega tests) λ h. either (At k) (ltb k permissions-at) (omega tests) λ h.
     either (At k) (ltb k held-at) (omega tests) λ h. either (At k) (ltb k holders-at) (omega tests) λ h.
     either (At k) (ltb k seniors-at) (omega tests) λ h. either (At k) (ltb k sessions-at) (omega tests) λ h.
-    either (At k) (eqb ((k - sessions-at) % 2) 0) (omega tests) (omega tests)
+    either (At k) (ltb k public-at) (λ t. either (At k) (eqb ((k - sessions-at) % 2) 0) (omega tests) (omega tests)) (omega tests)
 
 pub address-word-at : (k : ℕ) → k < state-length → address (word-at k) ≡ k
 address-word-at k l = (located k l) .its-address
@@ -113,6 +117,21 @@ owner-below (holders j p i) h n = omega arith
 owner-below (seniors j q i) h n = omega arith
 owner-below (session-user i s) h n = omega arith
 owner-below (active-roles i s) h n = omega arith
+owner-below (public-roles i) h n = omega arith
 
-pub owned : (k : ℕ) → 0 < k → k < state-length → owner (word-at k) < 16
-owned k p l = owner-below (word-at k) (word-at-numbered k l) (rw (address-word-at k l) p)
+pub places : Places
+places = record {
+  at-0 = word-at-address enrolled-issuers tt;
+  from-1 = λ i l. word-at-address (trusted i) (l, tt);
+  from-17 = λ i l. word-at-address (users i) (l, tt);
+  from-33 = λ i l. word-at-address (roles i) (l, tt);
+  from-49 = λ i l. word-at-address (permissions i) (l, tt);
+  from-65 = λ i u l m. word-at-address (held i u) (l, (m, tt));
+  from-321 = λ j p i l m n. word-at-address (holders j p i) (l, (m, (n, tt)));
+  from-4417 = λ j q i l m n. word-at-address (seniors j q i) (l, (m, (n, tt)));
+  from-8513 = λ i s l m. word-at-address (session-user i s) (l, (m, tt));
+  from-8514 = λ i s l m. word-at-address (active-roles i s) (l, (m, tt));
+  from-9025 = λ i l. word-at-address (public-roles i) (l, tt);
+  ends-at = refl;
+  owned = λ k p l. owner-below (word-at k) (word-at-numbered k l) (rw (address-word-at k l) p);
+}

@@ -4,13 +4,15 @@ use mathlib.Core.List.{List, [], _∷_, _++_}
 use mathlib.Core.Bool.{Bool, true, false, not}
 use Prim.Native.Nat.{ℕ}
 use Rattle.bits.proofs.Below.{find-ext}
-use Rattle.mtas.specs.Fact.{Fact, enrolled, trusts, role, permission, granted, attached, opened}
+use Rattle.mtas.specs.Fact.{Fact, enrolled, trusts, role, permission, public, granted, attached, opened}
+use Rattle.mtas.specs.Needs.{exposed}
 use Rattle.mtas.specs.State.{State, user-of}
 use Rattle.mtas.specs.Hierarchy.{_#_, reaches}
 use Rattle.mtas.specs.Law.{attachments}
-use Rattle.mtas.specs.Call.{Call, AddIssuer, RemoveIssuer, AssignTrust, RevokeTrust, AddUser, RemoveUser, AddRole, RemoveRole, AddPerm, RemovePerm, AssignUser, RevokeUser, AssignPerm, RevokePerm, AssignRH, RevokeRH, CreateSession, DeleteSession, AddActiveRole, DropActiveRole, CheckAccess, arguments}
+use Rattle.mtas.specs.Call.{Call, AddIssuer, RemoveIssuer, AssignTrust, RevokeTrust, AddUser, RemoveUser, AddRole, RemoveRole, AddPerm, RemovePerm, AssignUser, RevokeUser, AssignPerm, RevokePerm, AssignRH, RevokeRH, CreateSession, DeleteSession, AddActiveRole, DropActiveRole, CheckAccess, PublishRole, UnpublishRole, arguments}
 use Rattle.mtas.specs.Rule.{Guard, absent, present, reached, applies, Whose, operator's, issuer's, link-causes, rule, front, guards}
 use Rattle.mtas.specs.Answer.{first-cause, outcome}
+use Rattle.mtas.proofs.Exposed.{exposed-has}
 use Rattle.mtas.proofs.Guards.{Passes, passes}
 use Rattle.mtas.proofs.Isolation.{controller}
 
@@ -28,13 +30,14 @@ alike-first st st' (g ∷ l) m = go (alike-first st st' l) (applies st g) refl
     go rec true e = let e' : applies st' g ≡ true = sym (m .0) ∙ e in rw (e, e', first-cause)
     go rec false e = let e' : applies st' g ≡ false = sym (m .0) ∙ e in rw (e, e', first-cause) (rec (m .1 (passes st g e)))
 
--- what a call from c looks at: enrolments, what c controls, trust of and in c, and of an issuer that trusts c its roles and what reaches them
+-- what a call from c looks at: enrolments, what c controls, trust of and in c, and of an issuer that trusts c its roles, those that are public, and what reaches them
 pub record SeenAlike (st st' : State) (c : ℕ) : Type 0 where
   pub of-enrolment : (i : ℕ) → st .stands (enrolled i) ≡ st' .stands (enrolled i)
   pub of-own : (f : Fact) → controller f ≡ c → st .stands f ≡ st' .stands f
   pub of-its-trust : (j : ℕ) → st .stands (trusts c j) ≡ st' .stands (trusts c j)
   pub of-trust-in-it : (i : ℕ) → st .stands (trusts i c) ≡ st' .stands (trusts i c)
   pub of-roles : (i r : ℕ) → st .stands (trusts i c) ≡ true → st .stands (role i r) ≡ st' .stands (role i r)
+  pub of-public : (i r : ℕ) → st .stands (trusts i c) ≡ true → st .stands (public i r) ≡ st' .stands (public i r)
   pub of-reach : (q i r : ℕ) → st .stands (trusts i c) ≡ true → reaches (attachments st) (c # q) (i # r) ≡ reaches (attachments st') (c # q) (i # r)
 
 module _ (st st' : State) (c : ℕ) (S : SeenAlike st st' c) where
@@ -47,11 +50,14 @@ module _ (st st' : State) (c : ℕ) (S : SeenAlike st st' c) where
   unknown : (i : ℕ) → not (st .stands (enrolled i)) ≡ not (st' .stands (enrolled i))
   unknown i = ap not (S .of-enrolment i)
 
+  exposed-alike : (i r : ℕ) → st .stands (trusts i c) ≡ true → st .stands (exposed c i r) ≡ st' .stands (exposed c i r)
+  exposed-alike i r t = exposed-has (λ f. st .stands f ≡ st' .stands f) c i r (λ _. S .of-roles i r t) (λ _. S .of-public i r t)
+
   -- the calls that name another issuer's role: beyond refusal 9 that issuer trusts the caller
   links-alike : (i r : ℕ) (own : Fact) (l : List Guard) → controller own ≡ c → (st .stands (trusts i c) ≡ true → Alike st st' l) → Alike st st' (link-causes c i r own l)
   links-alike i r own l o k = (
     unknown i,
-    λ _. (ap not (S .of-trust-in-it i), λ t. (missing own o, λ _. (ap not (S .of-roles i r t), λ _. k t))),
+    λ _. (ap not (S .of-trust-in-it i), λ t. (missing own o, λ _. (ap not (S .of-roles i r t), λ _. (ap not (exposed-alike i r t), λ _. k t)))),
   )
 
   causes-alike : (u-of : ℕ → ℕ) (k : Call) → Alike st st' (rule u-of c k .causes)
@@ -80,6 +86,8 @@ module _ (st st' : State) (c : ℕ) (S : SeenAlike st st' c) where
   causes-alike u-of (DropActiveRole s r) =
       (missing _ refl, λ _. (missing _ refl, λ _. (missing _ refl, λ _. tt)))
   causes-alike u-of (CheckAccess p i s) = (missing _ refl, λ _. tt)
+  causes-alike u-of (PublishRole r) = (missing _ refl, λ _. (its _ refl, λ _. tt))
+  causes-alike u-of (UnpublishRole r) = (missing _ refl, λ _. (missing _ refl, λ _. tt))
 
   front-alike : (w : Whose) (l : List ℕ) (m : List Guard) → Alike st st' m → Alike st st' (front w c l ++ m)
   front-alike operator's l m a = (refl, λ _. (refl, λ _. a))

@@ -1,17 +1,18 @@
 -- Each accepted call leaves what document 01 says: a put adds its facts, and a cut clears those that its sentence names.
 use mathlib.Core.Path.{_≡_, refl, _∙_}
 use mathlib.Core.List.{List, [], _∷_}
-use mathlib.Core.Logic.{_⊎_, inl, inr}
+use mathlib.Core.Logic.{_⊎_, inl, inr, _≢_}
 use mathlib.Core.Bool.{true, false}
 use Prim.Native.Nat.{ℕ}
 use lib.Dec.{eqb}
 use borrow.Author.Tests.{eqb-false}
 use Rattle.bits.proofs.Booleans.{clash, untrue}
-use Rattle.mtas.specs.Fact.{Fact, enrolled, trusts, user, role, permission, holds, granted, attached, opened, active}
-use Rattle.mtas.specs.Needs.{enrolment}
+use Rattle.mtas.specs.Fact.{Fact, enrolled, trusts, user, role, permission, public, holds, granted, attached, opened, active}
+use Rattle.mtas.specs.Needs.{enrolment, exposed}
 use Rattle.mtas.specs.State.{State, put, cut, user-of}
 use Rattle.mtas.specs.Law.{In, here, there, Lawful}
-use Rattle.mtas.specs.Cascades.{Clears, Adds, Withdrawn, UserRemoved, RoleRemoved, PermissionRemoved, RoleTaken, Struck, Closed, Deactivated, Enrolled, Cascades}
+use Rattle.mtas.specs.Cascades.{Clears, Adds, Withdrawn, UserRemoved, RoleRemoved, PermissionRemoved, RoleTaken, Struck, Closed, Deactivated, Unpublished, Enrolled, Cascades}
+use Rattle.mtas.proofs.Exposed.{public-in, exposed-has}
 use Rattle.mtas.proofs.Facts.{All, all-in, roots, put-new, put-other, cut-gone, cut-other, cut-old}
 use Rattle.mtas.proofs.Sessions.{closed}
 use Rattle.mtas.proofs.Guards.{passed}
@@ -35,6 +36,7 @@ Goes (trusts i j) g = (Withdrawn i j g) ⊎ ((i ≡ j) × In (trusts i j) (roots
 Goes (user i u) g = UserRemoved i u g
 Goes (role i r) g = RoleRemoved i r g
 Goes (permission j p) g = PermissionRemoved j p g
+Goes (public i r) g = Unpublished i r g
 Goes (holds i u r) g = RoleTaken i u r g
 Goes (granted j p i r) g = g ≡ granted j p i r
 Goes (attached j q i r) g = g ≡ attached j q i r
@@ -44,6 +46,10 @@ Goes (active i s u r) g = Deactivated i s r g
 -- a root that is trust: withdrawn, or an issuer's in itself
 ruleset trust = (inl, inr, here, there)
 
+-- a link goes with the role that exposes it to the other owner
+exposed-goes : (g : Fact) (j i r : ℕ) → RoleRemoved i r g → (j ≢ i → Unpublished i r g) → Goes (exposed j i r) g
+exposed-goes g j i r removed unpublished = exposed-has (λ f. Goes f g) j i r (λ _. removed) (λ e. unpublished (eqb-false j i e))
+
 -- a fact goes with each of its roots, by the sentences that name it
 goes : (g : Fact) → All (λ f. Goes f g) (roots g)
 goes (enrolled i) = search (Struck.the-enrolment, trust) depth 20
@@ -51,9 +57,10 @@ goes (trusts i j) = search (Withdrawn.the-trust, Struck.its-trust, Struck.trust-
 goes (user i u) = search (UserRemoved.the-user, Struck.its-users, trust) depth 20
 goes (role i r) = search (RoleRemoved.the-role, Struck.its-roles, trust) depth 20
 goes (permission j p) = search (PermissionRemoved.the-permission, Struck.its-permissions, trust) depth 20
+goes (public i r) = search (Unpublished.the-publication, RoleRemoved.its-publication, Struck.its-publications, trust) depth 20
 goes (holds i u r) = search (RoleTaken.the-holding, UserRemoved.what-it-held, RoleRemoved.from-held, Struck.its-holdings, trust) depth 20
-goes (granted j p i r) = search (PermissionRemoved.its-grants, RoleRemoved.from-grants, Withdrawn.grants, Struck.its-grants, Struck.grants-to-it, trust) depth 20
-goes (attached j q i r) = search (RoleRemoved.as-junior, RoleRemoved.as-senior, Withdrawn.attachments, Struck.its-juniors, Struck.its-seniors, trust) depth 20
+goes (granted j p i r) = search (exposed-goes (granted j p i r) j i r RoleRemoved.from-grants Unpublished.others'-grants, PermissionRemoved.its-grants, RoleRemoved.from-grants, Withdrawn.grants, Struck.its-grants, Struck.grants-to-it, trust) depth 20
+goes (attached j q i r) = search (exposed-goes (attached j q i r) j i r RoleRemoved.as-senior Unpublished.others'-attachments, RoleRemoved.as-junior, RoleRemoved.as-senior, Withdrawn.attachments, Struck.its-juniors, Struck.its-seniors, trust) depth 20
 goes (opened i s u) = search (Closed.the-session, UserRemoved.its-sessions, Struck.its-sessions, trust) depth 20
 goes (active i s u r) = search (Deactivated.in-session, Closed.its-roles, RoleTaken.in-sessions, UserRemoved.their-roles, RoleRemoved.from-sessions, Struck.their-roles, trust) depth 20
 
@@ -70,12 +77,13 @@ module _ (st : State) (L : Lawful st) where
   root (enrolled i) h g k Struck.its-roles = there here
   root (enrolled i) h g k Struck.its-permissions = there here
   root (enrolled i) h g k Struck.its-holdings = search (here, there)
-  root (enrolled i) h g k Struck.its-grants = search (here, there) depth 7
-  root (enrolled i) h g k Struck.grants-to-it = search (here, there)
-  root (enrolled i) h g k Struck.its-juniors = search (here, there) depth 7
-  root (enrolled i) h g k Struck.its-seniors = search (here, there)
+  root (enrolled i) h g k Struck.its-grants = search (here, there) depth 9
+  root (enrolled i) h g k Struck.grants-to-it = search (here, there) depth 9
+  root (enrolled i) h g k Struck.its-juniors = search (here, there) depth 9
+  root (enrolled i) h g k Struck.its-seniors = search (here, there) depth 9
   root (enrolled i) h g k Struck.its-sessions = there (there here)
   root (enrolled i) h g k Struck.their-roles = search (here, there) depth 7
+  root (enrolled i) h g k Struck.its-publications = there (there here)
   root (trusts i j) h g k (inl Withdrawn.the-trust) = here
   root (trusts i j) h g k (inl Withdrawn.grants) = search (here, there)
   root (trusts i j) h g k (inl Withdrawn.attachments) = search (here, there)
@@ -90,8 +98,12 @@ module _ (st : State) (L : Lawful st) where
   root (role i r) h g k RoleRemoved.from-grants = there (there here)
   root (role i r) h g k RoleRemoved.as-senior = there (there here)
   root (role i r) h g k RoleRemoved.as-junior = there here
+  root (role i r) h g k RoleRemoved.its-publication = there here
   root (permission j p) h g k PermissionRemoved.the-permission = here
   root (permission j p) h g k PermissionRemoved.its-grants = there here
+  root (public i r) h g k Unpublished.the-publication = here
+  root (public i r) h g k (Unpublished.others'-grants {j} {p} n) = public-in j i r (there (there (there here))) n
+  root (public i r) h g k (Unpublished.others'-attachments {j} {q} n) = public-in j i r (there (there (there here))) n
   root (holds i u r) h g k RoleTaken.the-holding = here
   root (holds i u r) h g k RoleTaken.in-sessions = there (there here)
   root (granted j p i r) h g k e = rw e here
@@ -144,4 +156,6 @@ cascades = record {
   activates = λ c s r st L e. rw leaves (user-of st c s, search (passed _ _ _ e), adds-one st (active c s (user-of st c s) r));
   deactivates = λ c s r st L e. rw leaves (clears st L (active c s (user-of st c s) r) (search (passed _ _ _ e)));
   checks = λ c p i s st L e. rw leaves;
+  publishes = λ c r st L e. rw leaves (adds-one st (public c r));
+  unpublishes = λ c r st L e. rw leaves (clears st L (public c r) (search (passed _ _ _ e)));
 }

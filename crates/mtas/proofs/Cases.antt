@@ -1,4 +1,4 @@
--- Cases A to L, the further cases and document 01's journal: computed on states, and carried to words and bytes.
+-- Cases A to L, the further cases, Card 1's and document 01's journal: computed on states, and carried to words and bytes.
 use mathlib.Core.Path.{_≡_, refl, ap, sym, _∙_}
 use mathlib.Core.Logic.{_⊎_, inl, inr}
 use mathlib.Core.List.{List, [], _∷_}
@@ -11,7 +11,7 @@ use Rattle.bits.specs.Below.{any-below, find-below}
 use Rattle.bits.specs.Bit.{pack}
 use Rattle.bits.proofs.Booleans.{clash}
 use Rattle.mtas.specs.Fact.{role, attached, opened, same, numbers, above-15}
-use Rattle.mtas.specs.Needs.{needs}
+use Rattle.mtas.specs.Needs.{needs, exposed}
 use Rattle.mtas.specs.State.{State, nothing, listed, put, cut}
 use Rattle.mtas.specs.Hierarchy.{within}
 use Rattle.mtas.specs.Law.{In, here, there, Lawful}
@@ -20,7 +20,7 @@ use Rattle.mtas.specs.Layout.{word-in, word-at, encode}
 use Rattle.mtas.specs.Record.{decode}
 use Rattle.mtas.specs.Monitor.{answered, state-after}
 use Rattle.mtas.specs.Histories.{History, final}
-use Rattle.mtas.specs.Cases.{S-facts, S, Case, try, twelve-cases, further-cases, NoneStand, Holds, Every}
+use Rattle.mtas.specs.Cases.{S-facts, S, Case, try, twelve-cases, further-cases, indoor-cases, NoneStand, Holds, Every}
 use Rattle.mtas.proofs.Facts.{All, all-in, put-new, put-cases, below-16}
 use Rattle.mtas.proofs.Law.{nothing-lawful, put-lawful, put-acyclic}
 use Rattle.mtas.proofs.Step.{differ}
@@ -29,11 +29,12 @@ use Rattle.mtas.proofs.Monitor.{monitor-encode, state-after-lawful}
 
 -- each fact of S has what it needs in S
 S-supported : All (λ f. All (λ g. In g S-facts) (needs f)) S-facts
-S-supported = (search (here, there) depth 15, (search (here, there) depth 15, (search (here, there) depth 15, (search (here, there) depth 15, (search (here, there) depth 15, (search (here, there) depth 15, (search (here, there) depth 15, (search (here, there) depth 15, (search (here, there) depth 15, (search (here, there) depth 15, (search (here, there) depth 15, (search (here, there) depth 15, (search (here, there) depth 15, tt)))))))))))))
+unfolding exposed
+S-supported = (search (here, there) depth 16, (search (here, there) depth 16, (search (here, there) depth 16, (search (here, there) depth 16, (search (here, there) depth 16, (search (here, there) depth 16, (search (here, there) depth 16, (search (here, there) depth 16, (search (here, there) depth 16, (search (here, there) depth 16, (search (here, there) depth 16, (search (here, there) depth 16, (search (here, there) depth 16, (search (here, there) depth 16, tt))))))))))))))
 
 -- the one open session is 0/4, for 0@3, and no role is attached
 S-plain : (i s u j q k r : ℕ) → All (λ f. (f ≡ opened i s u → u ≡ 3) × (f ≡ attached j q k r → _≡_ {A = ℕ} 0 1)) S-facts
-S-plain i s u j q k r = (((λ e. cc), λ e. cc), (((λ e. cc), λ e. cc), (((λ e. cc), λ e. cc), (((λ e. cc), λ e. cc), (((λ e. cc), λ e. cc), (((λ e. cc), λ e. cc), (((λ e. cc), λ e. cc), (((λ e. cc), λ e. cc), (((λ e. cc), λ e. cc), (((λ e. cc), λ e. cc), (((λ e. cc), λ e. cc), (((λ e. cc), λ e. cc), (((λ e. cc), λ e. cc), tt)))))))))))))
+S-plain i s u j q k r = (((λ e. cc), λ e. cc), (((λ e. cc), λ e. cc), (((λ e. cc), λ e. cc), (((λ e. cc), λ e. cc), (((λ e. cc), λ e. cc), (((λ e. cc), λ e. cc), (((λ e. cc), λ e. cc), (((λ e. cc), λ e. cc), (((λ e. cc), λ e. cc), (((λ e. cc), λ e. cc), (((λ e. cc), λ e. cc), (((λ e. cc), λ e. cc), (((λ e. cc), λ e. cc), (((λ e. cc), λ e. cc), tt))))))))))))))
 
 S-session : (i s u : ℕ) → In (opened i s u) S-facts → u ≡ 3
 S-session i s u m = all-in (λ f. (f ≡ opened i s u → u ≡ 3) × (f ≡ attached 0 0 0 0 → _≡_ {A = ℕ} 0 1)) (S-plain i s u 0 0 0 0) m .0 refl
@@ -43,7 +44,7 @@ S-unattached j q k r m =
     differ (all-in (λ f. (f ≡ opened 0 0 0 → _≡_ {A = ℕ} 0 3) × (f ≡ attached j q k r → _≡_ {A = ℕ} 0 1)) (S-plain 0 0 0 j q k r) m .1 refl)
 
 S-numbered : All (λ f. above-15 (numbers f) ≡ false) S-facts
-S-numbered = (refl, (refl, (refl, (refl, (refl, (refl, (refl, (refl, (refl, (refl, (refl, (refl, (refl, tt)))))))))))))
+S-numbered = (refl, (refl, (refl, (refl, (refl, (refl, (refl, (refl, (refl, (refl, (refl, (refl, (refl, (refl, tt))))))))))))))
 
 pub S-lawful : Lawful S
 S-lawful =
@@ -90,24 +91,31 @@ every [] h = tt
 every (c ∷ l) h = (carried c (h .0), every l (h .1))
 
 twelve : EveryOnStates twelve-cases
-unfolding after-all decode answer next outcome first-cause leads-to may-use within put cut listed same decide ℕ-discrete any-below find-below
+unfolding after-all decode answer next outcome first-cause leads-to may-use within put cut listed same exposed decide ℕ-discrete any-below find-below
 twelve = ((refl, tt), ((refl, (refl, tt)), ((refl, tt), ((refl, tt), ((refl, tt), ((refl, tt), ((refl, (refl, (refl, tt))), ((refl, tt), ((refl, tt), ((refl, tt), ((refl, tt), ((refl, tt), tt))))))))))))
 
 pub twelve-hold : Every twelve-cases
 twelve-hold = every twelve-cases twelve
 
 further : EveryOnStates further-cases
-unfolding after-all decode answer next outcome first-cause leads-to may-use within put cut listed same decide ℕ-discrete any-below find-below
-further = ((refl, (refl, tt)), ((refl, (refl, tt)), ((refl, (refl, tt)), ((refl, (refl, tt)), ((refl, tt), ((refl, (refl, tt)), ((refl, (refl, (refl, (refl, tt)))), ((refl, tt), ((refl, (refl, (refl, (refl, tt)))), ((refl, (refl, (refl, (refl, (refl, tt))))), ((refl, (refl, (refl, tt))), ((refl, (refl, (refl, tt))), ((refl, (refl, (refl, tt))), ((refl, (refl, tt)), ((refl, tt), ((refl, tt), ((refl, tt), ((refl, tt), ((refl, tt), ((refl, tt), ((refl, tt), ((refl, tt), ((refl, tt), tt)))))))))))))))))))))))
+unfolding after-all decode answer next outcome first-cause leads-to may-use within put cut listed same exposed decide ℕ-discrete any-below find-below
+further = ((refl, (refl, tt)), ((refl, (refl, tt)), ((refl, (refl, tt)), ((refl, (refl, tt)), ((refl, tt), ((refl, (refl, tt)), ((refl, (refl, (refl, (refl, tt)))), ((refl, tt), ((refl, (refl, (refl, (refl, tt)))), ((refl, (refl, (refl, (refl, (refl, (refl, tt)))))), ((refl, (refl, (refl, tt))), ((refl, (refl, (refl, tt))), ((refl, (refl, (refl, tt))), ((refl, (refl, tt)), ((refl, tt), ((refl, tt), ((refl, tt), ((refl, tt), ((refl, tt), ((refl, tt), ((refl, tt), ((refl, tt), ((refl, tt), tt)))))))))))))))))))))))
 
 pub further-hold : Every further-cases
 further-hold = every further-cases further
+
+indoors : EveryOnStates indoor-cases
+unfolding after-all decode answer next outcome first-cause leads-to may-use within put cut listed same exposed decide ℕ-discrete any-below find-below
+indoors = ((refl, (refl, tt)), ((refl, tt), ((refl, tt), ((refl, tt), ((refl, (refl, tt)), ((refl, tt), ((refl, (refl, tt)), ((refl, tt), ((refl, (refl, tt)), ((refl, tt), ((refl, (refl, tt)), ((refl, (refl, tt)), ((refl, (refl, (refl, tt))), ((refl, (refl, tt)), ((refl, (refl, tt)), ((refl, (refl, tt)), ((refl, (refl, tt)), ((refl, tt), ((refl, (refl, tt)), ((refl, (refl, tt)), ((refl, tt), ((refl, (refl, tt)), ((refl, (refl, tt)), tt)))))))))))))))))))))))
+
+pub indoor-hold : Every indoor-cases
+indoor-hold = every indoor-cases indoors
 
 -- ---- where the words of S stand, by their numbers; and those of its two links
 abbrev At : State → ℕ → ℕ → Type 0
 At st k x = getD (encode st) k 0 ≡ x
 
-pub S-words : At S 0 3 × At S 1 3 × At S 2 2 × At S 17 8 × At S 33 12 × At S 50 32 × At S 68 4 × At S 657 4 × At S 8521 3 × At S 8522 4
+pub S-words : At S 0 3 × At S 1 3 × At S 2 2 × At S 17 8 × At S 33 12 × At S 50 32 × At S 68 4 × At S 657 4 × At S 8521 3 × At S 8522 4 × At S 9025 4
 unfolding word-at word-in pack put listed same decide ℕ-discrete find-below
 S-words = (
   encode-at S 0 (omega arith),
@@ -120,6 +128,7 @@ S-words = (
   encode-at S 657 (omega arith),
   encode-at S 8521 (omega arith),
   encode-at S 8522 (omega arith),
+  encode-at S 9025 (omega arith),
 )
 
 abbrev S-linked : State

@@ -3,10 +3,10 @@ use mathlib.Core.Path.{_≡_, refl}
 use Prim.Native.Nat.{ℕ, _<_}
 use native.Mathlib.Omega.{arith}
 use mathlib.Core.Logic.{_↔_}
-use Rattle.mtas.specs.Fact.{Fact, enrolled, trusts, user, role, permission, holds, granted, attached, opened, active, numbers, Below16}
+use Rattle.mtas.specs.Fact.{Fact, enrolled, trusts, user, role, permission, public, holds, granted, attached, opened, active, numbers, Below16}
 use Rattle.mtas.specs.Needs.{needs}
 use Rattle.mtas.specs.Law.{In, here}
-use Rattle.mtas.specs.Layout.{Word, enrolled-issuers, trusted, users, roles, permissions, held, holders, seniors, session-user, active-roles, Cell, sixteen, its-user, in-session, cell, Place, bit-of, user-in, bit-while, place}
+use Rattle.mtas.specs.Layout.{Word, enrolled-issuers, trusted, users, roles, permissions, held, holders, seniors, session-user, active-roles, public-roles, Cell, sixteen, its-user, in-session, cell, Place, bit-of, user-in, bit-while, place}
 use Rattle.mtas.proofs.Address.{word-numbers}
 
 -- the cell of the place's word says f there; what is said of a session's user needs that the session is open for it
@@ -21,6 +21,7 @@ said-there (trusts i j) = (trusts i, refl, refl)
 said-there (user i u) = (user i, refl, refl)
 said-there (role i r) = (role i, refl, refl)
 said-there (permission i p) = (permission i, refl, refl)
+said-there (public i r) = (public i, refl, refl)
 said-there (holds i u r) = (holds i u, refl, refl)
 said-there (granted j p i r) = (granted j p i, refl, refl)
 said-there (attached j q i r) = (attached j q i, refl, refl)
@@ -44,6 +45,7 @@ placed (holders j p i) = λ n. refl
 placed (seniors j q i) = λ n. refl
 placed (session-user i s) = refl
 placed (active-roles i s) = (λ u n. refl, λ h. (omega arith, omega arith, refl))
+placed (public-roles i) = λ n. refl
 
 -- the numbers of a place are below 16
 abbrev pub PlaceNumbered : Place → Type 0
@@ -57,6 +59,7 @@ place-numbered (trusts i j) = (λ h. omega arith, λ h. omega arith)
 place-numbered (user i u) = (λ h. omega arith, λ h. omega arith)
 place-numbered (role i r) = (λ h. omega arith, λ h. omega arith)
 place-numbered (permission i p) = (λ h. omega arith, λ h. omega arith)
+place-numbered (public i r) = (λ h. omega arith, λ h. omega arith)
 place-numbered (holds i u r) = (λ h. omega arith, λ h. omega arith)
 place-numbered (granted j p i r) = (λ h. omega arith, λ h. omega arith)
 place-numbered (attached j q i r) = (λ h. omega arith, λ h. omega arith)

@@ -4,11 +4,11 @@ use mathlib.Core.List.{[], _∷_}
 use mathlib.Core.Bool.{true, false}
 use Prim.Native.Nat.{ℕ}
 use Rattle.bits.proofs.Booleans.{clash}
-use Rattle.mtas.specs.Fact.{Fact, enrolled, trusts, user, role, permission, holds, granted, attached, opened, active}
+use Rattle.mtas.specs.Fact.{Fact, enrolled, trusts, user, role, permission, public, holds, granted, attached, opened, active}
 use Rattle.mtas.specs.Needs.{enrolment}
 use Rattle.mtas.specs.State.{State, put, cut, user-of}
 use Rattle.mtas.specs.Law.{here, Lawful}
-use Rattle.mtas.specs.Call.{Call, AddIssuer, RemoveIssuer, AssignTrust, RevokeTrust, AddUser, RemoveUser, AddRole, RemoveRole, AddPerm, RemovePerm, AssignUser, RevokeUser, AssignPerm, RevokePerm, AssignRH, RevokeRH, CreateSession, DeleteSession, AddActiveRole, DropActiveRole, CheckAccess}
+use Rattle.mtas.specs.Call.{Call, AddIssuer, RemoveIssuer, AssignTrust, RevokeTrust, AddUser, RemoveUser, AddRole, RemoveRole, AddPerm, RemovePerm, AssignUser, RevokeUser, AssignPerm, RevokePerm, AssignRH, RevokeRH, CreateSession, DeleteSession, AddActiveRole, DropActiveRole, CheckAccess, PublishRole, UnpublishRole}
 use Rattle.mtas.specs.Rule.{rule}
 use Rattle.mtas.specs.Answer.{accepted, outcome, change, next}
 use Rattle.mtas.proofs.Facts.{put-new, cut-gone}
@@ -48,6 +48,8 @@ module _ (st : State) (L : Lawful st) where
   moves c (AddActiveRole s r) p e = absurd (new (active c s (user-of st c s) r) (search p) e)
   moves c (DropActiveRole s r) p e = absurd (gone (active c s (user-of st c s) r) (search p) e)
   moves c (CheckAccess x i s) p e = (x, i, s, refl)
+  moves c (PublishRole r) p e = absurd (new (public c r) (search p) e)
+  moves c (UnpublishRole r) p e = absurd (gone (public c r) (search p) e)
 
   pub accepted-changes : (c : ℕ) (k : Call) → outcome st c k ≡ accepted → next st c k ≡ st → Checks k
   accepted-changes c k a e = moves c k (passed st c k a) (sym (leaves st c k a) ∙ e)

@@ -1,7 +1,7 @@
 -- No refusal discloses what is another issuer's own affair: no guard looks there.
 use mathlib.Core.Path.{_≡_, refl, ap, sym, _∙_, fun-ext}
 use Prim.Native.Nat.{ℕ}
-use Rattle.mtas.specs.Fact.{Fact, enrolled, trusts, user, role, holds, attached, opened, active}
+use Rattle.mtas.specs.Fact.{Fact, enrolled, trusts, user, role, public, holds, attached, opened, active}
 use Rattle.mtas.specs.State.{State}
 use Rattle.mtas.specs.Hierarchy.{_#_, reaches}
 use Rattle.mtas.specs.Law.{attachments}
@@ -31,6 +31,9 @@ no-trust = elim [ ]
 no-role : {c i r : ℕ} → OthersAffair c (role i r) → ⊥
 no-role = elim [ ]
 
+no-public : {c i r : ℕ} → OthersAffair c (public i r) → ⊥
+no-public = elim [ ]
+
 no-attachment : {c j q i r : ℕ} → OthersAffair c (attached j q i r) → ⊥
 no-attachment = elim [ ]
 
@@ -42,6 +45,7 @@ module _ (st st' : State) (c : ℕ) (B : SameBut c st st') where
     of-its-trust = λ j. B (trusts c j) no-trust;
     of-trust-in-it = λ i. B (trusts i c) no-trust;
     of-roles = λ i r t. B (role i r) no-role;
+    of-public = λ i r t. B (public i r) no-public;
     of-reach = λ q i r t. ap (λ g. reaches g (c # q) (i # r)) graph;
   }
     where

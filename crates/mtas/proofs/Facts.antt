@@ -8,10 +8,11 @@ use lib.Dec.{ltb}
 use borrow.Author.Tests.{ltb-true, lt-ltb}
 use Prim.Native.Nat.{ℕ}
 use Rattle.bits.proofs.Booleans.{clash, untrue}
-use Rattle.mtas.specs.Fact.{Fact, Fact-discrete, enrolled, trusts, user, role, permission, holds, granted, attached, opened, active, same, above-15, Below16}
-use Rattle.mtas.specs.Needs.{needs}
+use Rattle.mtas.specs.Fact.{Fact, Fact-discrete, enrolled, trusts, user, role, permission, public, holds, granted, attached, opened, active, same, above-15, Below16}
+use Rattle.mtas.specs.Needs.{needs, exposed}
 use Rattle.mtas.specs.State.{State, listed, put, cut}
 use Rattle.mtas.specs.Law.{In, here, there}
+use Rattle.mtas.proofs.Exposed.{exposed-has}
 
 pub same-true : {f g : Fact} → same f g ≡ true → f ≡ g
 unfolding same decide
@@ -62,6 +63,11 @@ all-in P a (there m) = all-in P (a .1) m
 abbrev pub roots : Fact → List Fact
 roots f = f ∷ needs f
 
+-- what an exposed role needs is in a list with the role and its issuer's enrolment
+exposed-rooted : (j i r : ℕ) {l : List Fact} → In (exposed j i r) l → In (role i r) l → In (enrolled i) l → In (trusts i i) l → All (λ f. In f l) (roots (exposed j i r))
+exposed-rooted j i r {l} x o e t =
+    exposed-has (λ n. In n l → All (λ f. In f l) (roots n)) j i r (λ _ _. (o, (e, (t, tt)))) (λ _ p. (p, (o, (e, (t, tt))))) x
+
 -- needs are listed to the last: what a need needs is there too
 roots-of-roots : (g : Fact) → All (λ n. All (λ f. In f (roots g)) (roots n)) (roots g)
 roots-of-roots (enrolled i) = search (here, there)
@@ -69,9 +75,10 @@ roots-of-roots (trusts i j) = search (here, there)
 roots-of-roots (user i u) = search (here, there)
 roots-of-roots (role i r) = search (here, there)
 roots-of-roots (permission i p) = search (here, there)
+roots-of-roots (public i r) = search (here, there)
 roots-of-roots (holds i u r) = search (here, there)
-roots-of-roots (granted j p i r) = (search (here, there) depth 9, (search (here, there) depth 9, (search (here, there) depth 9, (search (here, there) depth 9, (search (here, there) depth 9, (search (here, there) depth 9, (search (here, there) depth 9, (search (here, there) depth 9, tt))))))))
-roots-of-roots (attached j q i r) = (search (here, there) depth 9, (search (here, there) depth 9, (search (here, there) depth 9, (search (here, there) depth 9, (search (here, there) depth 9, (search (here, there) depth 9, (search (here, there) depth 9, (search (here, there) depth 9, tt))))))))
+roots-of-roots (granted j p i r) = (search (here, there) depth 9, (search (here, there) depth 9, (search (here, there) depth 9, (exposed-rooted j i r (search (here, there)) (search (here, there)) (search (here, there) depth 9) (search (here, there) depth 9), (search (here, there) depth 9, (search (here, there) depth 9, (search (here, there) depth 9, (search (here, there) depth 9, (search (here, there) depth 9, tt)))))))))
+roots-of-roots (attached j q i r) = (search (here, there) depth 9, (search (here, there) depth 9, (search (here, there) depth 9, (exposed-rooted j i r (search (here, there)) (search (here, there)) (search (here, there) depth 9) (search (here, there) depth 9), (search (here, there) depth 9, (search (here, there) depth 9, (search (here, there) depth 9, (search (here, there) depth 9, (search (here, there) depth 9, tt)))))))))
 roots-of-roots (opened i s u) = search (here, there) depth 9
 roots-of-roots (active i s u r) = (search (here, there) depth 9, (search (here, there) depth 9, (search (here, there) depth 9, (search (here, there) depth 9, (search (here, there) depth 9, (search (here, there) depth 9, (search (here, there) depth 9, tt)))))))
 

@@ -49,7 +49,7 @@ pub record Admitted (st : State) (w : Whose) (c : ℕ) (l : List ℕ) : Type 0 w
   pub known : w ≡ issuer's → st .stands (enrolled c) ≡ true
   pub small : Below16 l
 
-admitted : (st : State) (w : Whose) (c : ℕ) (l : List ℕ) (m : List Guard) → Clear st (front w c l ++ m) → Admitted st w c l × Clear st m
+pub admitted : (st : State) (w : Whose) (c : ℕ) (l : List ℕ) (m : List Guard) → Clear st (front w c l ++ m) → Admitted st w c l × Clear st m
 admitted st operator's c l m h = (record { may = not-false _ (h .0); known = λ e. absurd (let z : _≡_ {A = ℕ} 0 1 = cc in omega arith); small = below-16 l (h .1 .0) }, h .1 .1)
 admitted st issuer's c l m h = (record { may = not-false _ (h .0); known = λ _. h .1 .0; small = below-16 l (h .1 .1 .0) }, h .1 .1 .1)
 

@@ -6,13 +6,15 @@ use Prim.Native.Nat.{ℕ}
 use lib.Dec.{eqb}
 use borrow.Author.Tests.{eq-eqb, eqb-true, ne-eqb}
 use Rattle.bits.proofs.Booleans.{clash, untrue, same-test}
-use Rattle.mtas.specs.Fact.{Fact, enrolled, trusts, user, role, permission, holds, granted, attached, opened, active}
+use Rattle.mtas.specs.Fact.{Fact, enrolled, trusts, user, role, permission, public, holds, granted, attached, opened, active}
+use Rattle.mtas.specs.Needs.{exposed}
 use Rattle.mtas.specs.State.{State, nothing, user-of}
 use Rattle.mtas.specs.Law.{In, Lawful}
-use Rattle.mtas.specs.Call.{Call, AddIssuer, RemoveIssuer, AssignTrust, RevokeTrust, AddUser, RemoveUser, AddRole, RemoveRole, AddPerm, RemovePerm, AssignUser, RevokeUser, AssignPerm, RevokePerm, AssignRH, RevokeRH, CreateSession, DeleteSession, AddActiveRole, DropActiveRole, CheckAccess}
+use Rattle.mtas.specs.Call.{Call, AddIssuer, RemoveIssuer, AssignTrust, RevokeTrust, AddUser, RemoveUser, AddRole, RemoveRole, AddPerm, RemovePerm, AssignUser, RevokeUser, AssignPerm, RevokePerm, AssignRH, RevokeRH, CreateSession, DeleteSession, AddActiveRole, DropActiveRole, CheckAccess, PublishRole, UnpublishRole}
 use Rattle.mtas.specs.Rule.{Effect, puts, cuts, decides, rule}
 use Rattle.mtas.specs.Answer.{Outcome, accepted, refused, outcome, change, after, next}
-use Rattle.mtas.specs.Layout.{Word, enrolled-issuers, trusted, users, roles, permissions, held, holders, seniors, session-user, active-roles, Cell, sixteen, its-user, in-session, cell, owner}
+use Rattle.mtas.specs.Layout.{Word, enrolled-issuers, trusted, users, roles, permissions, held, holders, seniors, session-user, active-roles, public-roles, Cell, sixteen, its-user, in-session, cell, owner}
+use Rattle.mtas.proofs.Exposed.{exposed-has}
 use Rattle.mtas.proofs.Facts.{All, all-in, roots, put-old, put-cases, cut-old, cut-other}
 use Rattle.mtas.proofs.Law.{nothing-lawful, grant-trust, link-trust}
 use Rattle.mtas.proofs.Guards.{Passed, passed}
@@ -25,6 +27,7 @@ controller (trusts i j) = elim (eqb i j) [ true ↦ 16 | false ↦ i ]
 controller (user i u) = i
 controller (role i r) = i
 controller (permission i p) = i
+controller (public i r) = i
 controller (holds i u r) = i
 controller (granted j p i r) = j
 controller (attached j q i r) = j
@@ -64,6 +67,8 @@ own st c (DeleteSession s) g = refl
 own st c (AddActiveRole s r) g = ((refl, λ o m x n. cc), tt)
 own st c (DropActiveRole s r) g = refl
 own st c (CheckAccess p i s) g = tt
+own st c (PublishRole r) g = ((refl, λ o m x n. cc), tt)
+own st c (UnpublishRole r) g = refl
 
 -- inside: the members, and the operator
 module _ (inside : ℕ → Bool) where
@@ -109,6 +114,7 @@ module _ (inside : ℕ → Bool) (op : inside 16 ≡ true) where
   owned-inside (seniors j q i) h = λ n. h
   owned-inside (session-user i s) h = h
   owned-inside (active-roles i s) h = (h, λ u n. h)
+  owned-inside (public-roles i) h = λ n. h
 
   module _ (st : State) (S : Secure inside st) where
     -- whoever trusts a member is inside
@@ -122,6 +128,9 @@ module _ (inside : ℕ → Bool) (op : inside 16 ≡ true) where
     self-inside : (i : ℕ) → inside (controller (trusts i i)) ≡ true
     self-inside i = rw (self-trust i) op
 
+    exposed-inside : (j i r : ℕ) → inside i ≡ true → inside (controller (exposed j i r)) ≡ true
+    exposed-inside j i r h = exposed-has (λ f. inside (controller f) ≡ true) j i r (λ _. h) (λ _. h)
+
     -- all that a member's fact stands on is controlled inside
     roots-inside : (g : Fact) → st .stands g ≡ true → inside (controller g) ≡ true → All (λ f. inside (controller f) ≡ true) (roots g)
     roots-inside (enrolled i) h o = search self-inside
@@ -129,13 +138,14 @@ module _ (inside : ℕ → Bool) (op : inside 16 ≡ true) where
     roots-inside (user i u) h o = search self-inside
     roots-inside (role i r) h o = search self-inside
     roots-inside (permission i p) h o = search self-inside
+    roots-inside (public i r) h o = search self-inside
     roots-inside (holds i u r) h o = search self-inside
     roots-inside (granted j p i r) h o =
         let t = trustor-inside i j (grant-trust st (S .lawful) h) o in
-        search (self-inside, trust-inside)
+        search (self-inside, trust-inside, exposed-inside)
     roots-inside (attached j q i r) h o =
         let t = trustor-inside i j (link-trust st (S .lawful) h) o in
-        search (self-inside, trust-inside)
+        search (self-inside, trust-inside, exposed-inside)
     roots-inside (opened i s u) h o = search self-inside
     roots-inside (active i s u r) h o = search self-inside
 

@@ -31,10 +31,10 @@ attachments-numbered st n a b h =
 module _ (st : State) (L : Lawful st) where
   -- a link needs trust of the role's, or senior's, owner in the other
   pub grant-trust : {j p i r : ℕ} → st .stands (granted j p i r) ≡ true → st .stands (trusts i j) ≡ true
-  grant-trust {j} {p} {i} {r} h = L .supported (granted j p i r) (trusts i j) h (there (there here))
+  grant-trust {j} {p} {i} {r} h = L .supported (granted j p i r) (trusts i j) h (there (there (there here)))
 
   pub link-trust : {j q i r : ℕ} → st .stands (attached j q i r) ≡ true → st .stands (trusts i j) ≡ true
-  link-trust {j} {q} {i} {r} h = L .supported (attached j q i r) (trusts i j) h (there (there here))
+  link-trust {j} {q} {i} {r} h = L .supported (attached j q i r) (trusts i j) h (there (there (there here)))
 
   pub cut-lawful : (f : Fact) → Lawful (cut f st)
   cut-lawful f = record {

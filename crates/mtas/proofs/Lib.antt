@@ -1,3 +1,4 @@
+pub mod Exposed
 pub mod Facts
 pub mod Hierarchy
 pub mod Law
@@ -19,6 +20,7 @@ pub mod Access
 pub mod Isolation
 pub mod Alike
 pub mod Disclosure
+pub mod PublicRoles
 pub mod Walks
 pub mod Unwinding
 pub mod Remaining

@@ -55,7 +55,7 @@ monitor-encode st L b =
     monitor-lawful (encode st) b (encode-lawful st L)
     ∙ ap (λ x. record { answer = answered x (decode b); words = encode (state-after x (decode b)) }) (view-encode st L)
 
--- 'state not 9,025 words': 1; 'state not lawful': 2; whatever the record
+-- a state not of its length: 1; 'state not lawful': 2; whatever the record
 pub wrong-length : (ws b : List ℕ) → (length ws ≡ state-length → ⊥) → monitor ws b ≡ turned-down 1 ws
 unfolding monitor
 wrong-length ws b n = rw (ne-eqb (length ws) state-length n, monitor)

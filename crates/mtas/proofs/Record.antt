@@ -1,7 +1,7 @@
 -- Decoding the record of a call gives the caller and the call back.
 use mathlib.Core.Path.{_≡_, refl}
 use Prim.Native.Nat.{ℕ}
-use Rattle.mtas.specs.Call.{Call, AddIssuer, RemoveIssuer, AssignTrust, RevokeTrust, AddUser, RemoveUser, AddRole, RemoveRole, AddPerm, RemovePerm, AssignUser, RevokeUser, AssignPerm, RevokePerm, AssignRH, RevokeRH, CreateSession, DeleteSession, AddActiveRole, DropActiveRole, CheckAccess}
+use Rattle.mtas.specs.Call.{Call, AddIssuer, RemoveIssuer, AssignTrust, RevokeTrust, AddUser, RemoveUser, AddRole, RemoveRole, AddPerm, RemovePerm, AssignUser, RevokeUser, AssignPerm, RevokePerm, AssignRH, RevokeRH, CreateSession, DeleteSession, AddActiveRole, DropActiveRole, CheckAccess, PublishRole, UnpublishRole}
 use Rattle.mtas.specs.Record.{request, decode, encode-call}
 
 pub decode-encoded : (c : ℕ) (k : Call) → decode (encode-call c k) ≡ request c k
@@ -27,3 +27,5 @@ decode-encoded c (DeleteSession x) = refl
 decode-encoded c (AddActiveRole x y) = refl
 decode-encoded c (DropActiveRole x y) = refl
 decode-encoded c (CheckAccess x y z) = refl
+decode-encoded c (PublishRole x) = refl
+decode-encoded c (UnpublishRole x) = refl

@@ -6,9 +6,9 @@ use Prim.Native.Nat.{ℕ}
 use lib.Dec.{eqb}
 use lib.ListN.{drop}
 use Rattle.bits.proofs.Booleans.{and-left, and-right, and-intro}
-use Rattle.mtas.specs.Call.{Call, AddIssuer, RemoveIssuer, AssignTrust, RevokeTrust, AddUser, RemoveUser, AddRole, RemoveRole, AddPerm, RemovePerm, AssignUser, RevokeUser, AssignPerm, RevokePerm, AssignRH, RevokeRH, CreateSession, DeleteSession, AddActiveRole, DropActiveRole, CheckAccess}
+use Rattle.mtas.specs.Call.{Call, AddIssuer, RemoveIssuer, AssignTrust, RevokeTrust, AddUser, RemoveUser, AddRole, RemoveRole, AddPerm, RemovePerm, AssignUser, RevokeUser, AssignPerm, RevokePerm, AssignRH, RevokeRH, CreateSession, DeleteSession, AddActiveRole, DropActiveRole, CheckAccess, PublishRole, UnpublishRole}
 use Rattle.mtas.specs.Record.{kind}
-use Rattle.mtas.specs.Rule.{Guard, guards, cause, refusals, from-first, among-numbers, in-order}
+use Rattle.mtas.specs.Rule.{Guard, guards, cause, refusals, from-first, among-numbers, each-once, in-order}
 use Rattle.mtas.specs.Refusals.{Cause, table, concerning}
 
 pub as-the-table : (u-of : ℕ → ℕ) (c : ℕ) (k : Call) → guards u-of c k ≡ concerning (kind k) (table u-of c k)
@@ -33,6 +33,8 @@ as-the-table u-of c (DeleteSession s) = refl
 as-the-table u-of c (AddActiveRole s r) = refl
 as-the-table u-of c (DropActiveRole s r) = refl
 as-the-table u-of c (CheckAccess p i s) = refl
+as-the-table u-of c (PublishRole r) = refl
+as-the-table u-of c (UnpublishRole r) = refl
 
 -- ---- the order
 
@@ -95,6 +97,10 @@ some-in-order n (x ∷ t) l h = go (among-numbers n (x .kinds)) refl (some-in-or
     go : (b : Bool) → among-numbers n (x .kinds) ≡ b → in-order rest (concerning n t) ≡ true → in-order l (concerning n (x ∷ t)) ≡ true
     go true e r = rw (e, concerning) (and-intro (among-numbers first l) (in-order rest (concerning n t)) (and-left (among-numbers first l) (in-order rest (all-causes t)) h) r)
     go false e r = rw (e, concerning) (still-in-order (concerning n t) (first-rest first l) r)
+
+-- the list has each of its numbers once, so that it says which comes first
+pub refusals-once : each-once refusals ≡ true
+refusals-once = refl
 
 -- 'Tried from 1 upwards', by the list and not by the numbers: every row keeps the order of those from 4 on
 pub tried-in-order : (u-of : ℕ → ℕ) (c : ℕ) (k : Call) → in-order (drop 3 refusals) (guards u-of c k) ≡ true

@@ -5,11 +5,11 @@ use mathlib.Core.Bool.{Bool, true, false}
 use Prim.Native.Nat.{ℕ}
 use native.Mathlib.Omega.{arith}
 use Rattle.bits.proofs.Booleans.{clash}
-use Rattle.mtas.specs.Fact.{Fact, enrolled, trusts, user, role, permission, holds, granted, attached, opened, active, numbers, Below16}
+use Rattle.mtas.specs.Fact.{Fact, enrolled, trusts, user, role, permission, public, holds, granted, attached, opened, active, numbers, Below16}
 use Rattle.mtas.specs.Needs.{needs, enrolment}
 use Rattle.mtas.specs.State.{State, put, user-of}
 use Rattle.mtas.specs.Law.{here, there, attachments, Lawful}
-use Rattle.mtas.specs.Call.{Call, AddIssuer, RemoveIssuer, AssignTrust, RevokeTrust, AddUser, RemoveUser, AddRole, RemoveRole, AddPerm, RemovePerm, AssignUser, RevokeUser, AssignPerm, RevokePerm, AssignRH, RevokeRH, CreateSession, DeleteSession, AddActiveRole, DropActiveRole, CheckAccess}
+use Rattle.mtas.specs.Call.{Call, AddIssuer, RemoveIssuer, AssignTrust, RevokeTrust, AddUser, RemoveUser, AddRole, RemoveRole, AddPerm, RemovePerm, AssignUser, RevokeUser, AssignPerm, RevokePerm, AssignRH, RevokeRH, CreateSession, DeleteSession, AddActiveRole, DropActiveRole, CheckAccess, PublishRole, UnpublishRole}
 use Rattle.mtas.specs.Rule.{issuer's, rule}
 use Rattle.mtas.specs.Answer.{refuses, Outcome, accepted, refused, outcome, change, after, answer, next}
 use Rattle.mtas.proofs.Facts.{All, all-in, in-one, put-new}
@@ -28,6 +28,7 @@ plain (trusts i j) = true
 plain (user i u) = true
 plain (role i r) = true
 plain (permission i p) = true
+plain (public i r) = true
 plain (holds i u r) = true
 plain (granted j p i r) = true
 plain (attached j q i r) = false
@@ -79,7 +80,7 @@ module _ (st : State) (L : Lawful st) where
   keeps c (RevokePerm x i r) p = cut-lawful st L (granted c x i r)
   keeps c (AssignRH q i r) p =
       put-one-lawful st L (attached c q i r) (let e = p .front .known refl in search trusts-itself) (own c (q ∷ i ∷ r ∷ []) (p .front)) (λ i s u v e. cc)
-      (attach-acyclic st L c q i r (λ w. clash (reaches-complete (attachments st) (attachments-numbered st (L .numbered)) w) (p .own .1 .1 .1 .1 .1 .0)))
+      (attach-acyclic st L c q i r (λ w. clash (reaches-complete (attachments st) (attachments-numbered st (L .numbered)) w) (p .own .1 .1 .1 .1 .1 .1 .0)))
   keeps c (RevokeRH q i r) p = cut-lawful st L (attached c q i r)
   keeps c (CreateSession s u) p =
       put-one-lawful st L (opened c s u) (let e = p .front .known refl in search trusts-itself) (own c (s ∷ u ∷ []) (p .front))
@@ -94,6 +95,8 @@ module _ (st : State) (L : Lawful st) where
       put-plain (active c s (user-of st c s) r) (search trusts-itself) (omega arith) refl
   keeps c (DropActiveRole s r) p = cut-lawful st L (active c s (user-of st c s) r)
   keeps c (CheckAccess x i s) p = L
+  keeps c (PublishRole r) p = put-plain (public c r) (let e = p .front .known refl in search trusts-itself) (own c (r ∷ []) (p .front)) refl
+  keeps c (UnpublishRole r) p = cut-lawful st L (public c r)
 
   -- every call, accepted or not
   pub next-lawful : (c : ℕ) (k : Call) → Lawful (next st c k)

@@ -6,7 +6,7 @@ use Rattle.bits.specs.Below.{any-below}
 use Rattle.bits.specs.Bit.{digit}
 use Rattle.bits.proofs.Booleans.{clash, untrue}
 use Rattle.bits.proofs.Below.{any-ext, any-both-elim, find-ext}
-use Rattle.mtas.specs.Fact.{enrolled, trusts, role, granted, attached, opened, active}
+use Rattle.mtas.specs.Fact.{enrolled, trusts, role, public, granted, attached, opened, active}
 use Rattle.mtas.specs.State.{State, user-of}
 use Rattle.mtas.specs.Hierarchy.{Role, _#_, Graph}
 use Rattle.mtas.specs.Law.{attachments, holders-of}
@@ -79,6 +79,7 @@ module _ (inside : ℕ → Bool) (op : inside 16 ≡ true) where
         of-its-trust = λ j. A (trusts c j) (trust-inside inside op c j h);
         of-trust-in-it = λ i. trust-same i c h;
         of-roles = λ i r t. A (role i r) (trustor-inside inside op st S i c t h);
+        of-public = λ i r t. A (public i r) (trustor-inside inside op st S i c t h);
         of-reach = λ q i r t.
             reaches-same inside (carries st st' S S' A) (carries st' st S' S A') (attachments-numbered st (S .lawful .numbered)) (attachments-numbered st' (S' .lawful .numbered)) (c # q) (i # r)
             (trustor-inside inside op st S i c t h);

@@ -6,7 +6,7 @@ use mathlib.Core.Bool.{Bool, true, false}
 use Prim.Native.Nat.{ℕ, suc}
 use Rattle.bits.specs.Bit.{digit}
 use Rattle.mtas.specs.State.{State, user-of}
-use Rattle.mtas.specs.Call.{Call, AddIssuer, RemoveIssuer, AssignTrust, RevokeTrust, AddUser, RemoveUser, AddRole, RemoveRole, AddPerm, RemovePerm, AssignUser, RevokeUser, AssignPerm, RevokePerm, AssignRH, RevokeRH, CreateSession, DeleteSession, AddActiveRole, DropActiveRole, CheckAccess}
+use Rattle.mtas.specs.Call.{Call, AddIssuer, RemoveIssuer, AssignTrust, RevokeTrust, AddUser, RemoveUser, AddRole, RemoveRole, AddPerm, RemovePerm, AssignUser, RevokeUser, AssignPerm, RevokePerm, AssignRH, RevokeRH, CreateSession, DeleteSession, AddActiveRole, DropActiveRole, CheckAccess, PublishRole, UnpublishRole}
 use Rattle.mtas.specs.Rule.{Effect, puts, cuts, decides, rule}
 use Rattle.mtas.specs.Answer.{Outcome, accepted, refused, outcome, decides-on, verdict-of, reply, answer}
 use Rattle.mtas.specs.Layout.{view}
@@ -58,6 +58,8 @@ checks st c (DeleteSession s) h = absurd (differ h)
 checks st c (AddActiveRole s r) h = absurd (differ h)
 checks st c (DropActiveRole s r) h = absurd (differ h)
 checks st c (CheckAccess p i s) h = (p, i, s, refl, digit-true (decides-on st c p i s) h)
+checks st c (PublishRole r) h = absurd (differ h)
+checks st c (UnpublishRole r) h = absurd (differ h)
 
 module _ (ws b : List ℕ) where
   abbrev SaysYes : Result → Type 0

@@ -1,4 +1,4 @@
--- The twenty-one calls and their arguments (document 01, 'The call record'), named as in AMTAS's Table I, the sessions' as in the NIST RBAC standard.
+-- The twenty-three calls and their arguments (document 01, 'The call record'; the last two are Card 1's), named as in AMTAS's Table I, the sessions' as in the NIST RBAC standard.
 use mathlib.Core.List.{List, [], _∷_}
 use Prim.Native.Nat.{ℕ}
 
@@ -15,6 +15,7 @@ pub data Call : Type 0 where
   DeleteSession : ℕ → Call  -- s: close session
   AddActiveRole DropActiveRole : ℕ → ℕ → Call  -- s, r: activate, deactivate role
   CheckAccess : ℕ → ℕ → ℕ → Call  -- p, i, s: may session i/s use own permission p
+  PublishRole UnpublishRole : ℕ → Call  -- r: publish, unpublish own role r
 
 -- the arguments, as the record has them
 abbrev pub arguments : Call → List ℕ
@@ -39,3 +40,5 @@ arguments (DeleteSession s) = s ∷ []
 arguments (AddActiveRole s r) = s ∷ r ∷ []
 arguments (DropActiveRole s r) = s ∷ r ∷ []
 arguments (CheckAccess p i s) = p ∷ i ∷ s ∷ []
+arguments (PublishRole r) = r ∷ []
+arguments (UnpublishRole r) = r ∷ []

@@ -1,11 +1,12 @@
--- What each accepted call leaves, in document 01's own sentences ('Cascades, all within the one call'). Proved of put and cut in proofs/.
+-- What each accepted call leaves, in the sentences of document 01 ('Cascades, all within the one call') and of Card 1. Proved of put and cut in proofs/.
 use mathlib.Core.Path.{_≡_}
+use mathlib.Core.Logic.{_≢_}
 use mathlib.Core.Bool.{true, false}
 use Prim.Native.Nat.{ℕ}
-use Rattle.mtas.specs.Fact.{Fact, enrolled, trusts, user, role, permission, holds, granted, attached, opened, active}
+use Rattle.mtas.specs.Fact.{Fact, enrolled, trusts, user, role, permission, public, holds, granted, attached, opened, active}
 use Rattle.mtas.specs.State.{State}
 use Rattle.mtas.specs.Law.{Lawful}
-use Rattle.mtas.specs.Call.{Call, AddIssuer, RemoveIssuer, AssignTrust, RevokeTrust, AddUser, RemoveUser, AddRole, RemoveRole, AddPerm, RemovePerm, AssignUser, RevokeUser, AssignPerm, RevokePerm, AssignRH, RevokeRH, CreateSession, DeleteSession, AddActiveRole, DropActiveRole, CheckAccess}
+use Rattle.mtas.specs.Call.{Call, AddIssuer, RemoveIssuer, AssignTrust, RevokeTrust, AddUser, RemoveUser, AddRole, RemoveRole, AddPerm, RemovePerm, AssignUser, RevokeUser, AssignPerm, RevokePerm, AssignRH, RevokeRH, CreateSession, DeleteSession, AddActiveRole, DropActiveRole, CheckAccess, PublishRole, UnpublishRole}
 use Rattle.mtas.specs.Answer.{accepted, outcome, next}
 
 -- exactly these facts go; 'Nothing else changes'
@@ -31,7 +32,7 @@ pub data UserRemoved (i u : ℕ) : Fact → Type 0 where
   its-sessions : {s : ℕ} → UserRemoved i u (opened i s u)
   their-roles : {s r : ℕ} → UserRemoved i u (active i s u r)
 
--- 'Removing a role clears it from held words, sessions, grants and attachments on either side'
+-- 'Removing a role clears it from held words, sessions, grants and attachments on either side'; its public bit is 'cleared with the thing' that it names
 pub data RoleRemoved (i r : ℕ) : Fact → Type 0 where
   the-role : RoleRemoved i r (role i r)
   from-held : {u : ℕ} → RoleRemoved i r (holds i u r)
@@ -39,6 +40,7 @@ pub data RoleRemoved (i r : ℕ) : Fact → Type 0 where
   from-grants : {j p : ℕ} → RoleRemoved i r (granted j p i r)
   as-senior : {j q : ℕ} → RoleRemoved i r (attached j q i r)
   as-junior : {k t : ℕ} → RoleRemoved i r (attached i r k t)
+  its-publication : RoleRemoved i r (public i r)
 
 -- 'Removing a permission clears its grants'
 pub data PermissionRemoved (j p : ℕ) : Fact → Type 0 where
@@ -65,6 +67,7 @@ pub data Struck (i : ℕ) : Fact → Type 0 where
   its-seniors : {j q r : ℕ} → Struck i (attached j q i r)
   its-sessions : {s u : ℕ} → Struck i (opened i s u)
   their-roles : {s u r : ℕ} → Struck i (active i s u r)
+  its-publications : {r : ℕ} → Struck i (public i r)
 
 -- a session closes, whoever its user is
 pub data Closed (i s : ℕ) : Fact → Type 0 where
@@ -73,6 +76,13 @@ pub data Closed (i s : ℕ) : Fact → Type 0 where
 
 pub data Deactivated (i s r : ℕ) : Fact → Type 0 where
   in-session : {u : ℕ} → Deactivated i s r (active i s u r)
+
+-- 'Unpublishing clears those that used it': other estates' grants to i#r and their attachments below it. What i itself granted to it or attached below it stays,
+-- and so does i#r below others' roles, which needs those to be public.
+pub data Unpublished (i r : ℕ) : Fact → Type 0 where
+  the-publication : Unpublished i r (public i r)
+  others'-grants : {j p : ℕ} → j ≢ i → Unpublished i r (granted j p i r)
+  others'-attachments : {j q : ℕ} → j ≢ i → Unpublished i r (attached j q i r)
 
 -- 'Enrolling also sets the issuer's trust in itself'
 pub data Enrolled (i : ℕ) : Fact → Type 0 where
@@ -112,3 +122,5 @@ pub record Cascades : Type 0 where
   pub activates : (c s r : ℕ) → OnAcceptance c (AddActiveRole s r) (λ before after. (u : ℕ) × (before .stands (opened c s u) ≡ true) × Adds (Only (active c s u r)) before after)
   pub deactivates : (c s r : ℕ) → OnAcceptance c (DropActiveRole s r) (Clears (Deactivated c s r))
   pub checks : (c p i s : ℕ) → OnAcceptance c (CheckAccess p i s) (λ before after. after ≡ before)
+  pub publishes : (c r : ℕ) → OnAcceptance c (PublishRole r) (Adds (Only (public c r)))
+  pub unpublishes : (c r : ℕ) → OnAcceptance c (UnpublishRole r) (Clears (Unpublished c r))

@@ -1,10 +1,10 @@
--- Document 01's twelve press-house cases, as one table and one statement; and further cases that a wrong walk or cascade would fail.
+-- Document 01's twelve press-house cases, as one table and one statement; further cases that a wrong walk, guard or cascade would fail; and Card 1's.
 use mathlib.Core.Path.{_≡_}
 use mathlib.Core.List.{List, [], _∷_, _++_}
 use mathlib.Core.Bool.{false}
 use Prim.Native.Nat.{ℕ, _<_, _≤_}
 use lib.ListN.{length}
-use Rattle.mtas.specs.Fact.{Fact, enrolled, trusts, user, role, permission, holds, granted, attached, opened, active}
+use Rattle.mtas.specs.Fact.{Fact, enrolled, trusts, user, role, permission, public, holds, granted, attached, opened, active}
 use Rattle.mtas.specs.State.{State, nothing, put}
 use Rattle.mtas.specs.Answer.{Answer, accepts, refuses}
 use Rattle.mtas.specs.Layout.{encode, view}
@@ -13,12 +13,12 @@ use Rattle.mtas.specs.Monitor.{initial-words, monitor}
 use Rattle.mtas.specs.Histories.{History, final}
 use Rattle.mtas.specs.Journal.{read-journal, Line, played, end, broken, long, lines-from, last-line, output}
 
--- 'issuers 0 and 1 are enrolled, 0 trusts 1, 0@3 holds 0#2, 0#3 is present and unheld, 0/4 is open for 0@3 with role 2 active, and 1%5 is granted to 0#2; nothing else'
+-- 'issuers 0 and 1 are enrolled, 0 trusts 1, 0@3 holds 0#2, 0#3 is present and unheld, 0/4 is open for 0@3 with role 2 active, and 1%5 is granted to 0#2; nothing else'; 'In S 0#2 is public'
 abbrev pub S-facts : List Fact
 S-facts =
     enrolled 0 ∷ enrolled 1 ∷ trusts 0 0 ∷ trusts 1 1 ∷ trusts 0 1
     ∷ user 0 3 ∷ role 0 2 ∷ holds 0 3 2 ∷ role 0 3
-    ∷ opened 0 4 3 ∷ active 0 4 3 2 ∷ permission 1 5 ∷ granted 1 5 0 2 ∷ []
+    ∷ opened 0 4 3 ∷ active 0 4 3 2 ∷ permission 1 5 ∷ granted 1 5 0 2 ∷ public 0 2 ∷ []
 
 abbrev pub S : State
 S = put S-facts nothing
@@ -43,21 +43,21 @@ twelve-cases =
     ∷ try [] (record-of 19 0 (4 ∷ 3 ∷ [])) (refuses 11) []  -- L
     ∷ []
 
--- Two links across two estates: 0#3 is attached below 0#2 and 1#6 below 0#3, 1%5 is granted to 1#6 in place of 0#2.
+-- Two links across two estates: 0#3 is attached below 0#2 and published, 1#6 is attached below 0#3, 1%5 is granted to 1#6 in place of 0#2.
 abbrev two-links : History
 two-links =
-    record-of 15 0 (3 ∷ 0 ∷ 2 ∷ []) ∷ record-of 7 1 (6 ∷ []) ∷ record-of 15 1 (6 ∷ 0 ∷ 3 ∷ [])
+    record-of 15 0 (3 ∷ 0 ∷ 2 ∷ []) ∷ record-of 22 0 (3 ∷ []) ∷ record-of 7 1 (6 ∷ []) ∷ record-of 15 1 (6 ∷ 0 ∷ 3 ∷ [])
     ∷ record-of 13 1 (5 ∷ 1 ∷ 6 ∷ []) ∷ record-of 14 1 (5 ∷ 0 ∷ 2 ∷ []) ∷ []
 
 -- the same, and one record more
 abbrev two-links-and : List ℕ → History
 two-links-and b = two-links ++ (b ∷ [])
 
--- Each estate's own calls once: 0@6 holds 0#7, active in 0/9; 1%8 is granted to 0#7.
+-- Each estate's own calls once: 0@6 holds 0#7, public and active in 0/9; 1%8 is granted to 0#7.
 abbrev a-day : History
 a-day =
     record-of 5 0 (6 ∷ []) ∷ record-of 7 0 (7 ∷ []) ∷ record-of 11 0 (6 ∷ 7 ∷ []) ∷ record-of 17 0 (9 ∷ 6 ∷ [])
-    ∷ record-of 19 0 (9 ∷ 7 ∷ []) ∷ record-of 9 1 (8 ∷ []) ∷ record-of 13 1 (8 ∷ 0 ∷ 7 ∷ []) ∷ []
+    ∷ record-of 19 0 (9 ∷ 7 ∷ []) ∷ record-of 22 0 (7 ∷ []) ∷ record-of 9 1 (8 ∷ []) ∷ record-of 13 1 (8 ∷ 0 ∷ 7 ∷ []) ∷ []
 
 -- after a-day and one record more, 1 tries 8, 0, 9
 abbrev then-try : List ℕ → Answer → List Fact → Case
@@ -81,16 +81,16 @@ further-cases =
     -- a user, a role, a permission added, a role given, activated and used; then one of them removed, taken or closed
     ∷ try a-day (record-of 21 1 (8 ∷ 0 ∷ 9 ∷ [])) (accepts 1) []
     ∷ then-try (record-of 6 0 (6 ∷ [])) (accepts 0) (user 0 6 ∷ holds 0 6 7 ∷ opened 0 9 6 ∷ [])
-    ∷ then-try (record-of 8 0 (7 ∷ [])) (accepts 0) (role 0 7 ∷ holds 0 6 7 ∷ active 0 9 6 7 ∷ granted 1 8 0 7 ∷ [])
+    ∷ then-try (record-of 8 0 (7 ∷ [])) (accepts 0) (role 0 7 ∷ public 0 7 ∷ holds 0 6 7 ∷ active 0 9 6 7 ∷ granted 1 8 0 7 ∷ [])
     ∷ then-try (record-of 10 1 (8 ∷ [])) (refuses 10) (permission 1 8 ∷ granted 1 8 0 7 ∷ [])
     ∷ then-try (record-of 12 0 (6 ∷ 7 ∷ [])) (accepts 0) (holds 0 6 7 ∷ active 0 9 6 7 ∷ [])
     ∷ then-try (record-of 18 0 (9 ∷ [])) (accepts 0) (opened 0 9 6 ∷ active 0 9 6 7 ∷ [])
     -- a session of an issuer that isn't enrolled: no cause of refusal
     ∷ try [] (record-of 21 1 (5 ∷ 7 ∷ 4 ∷ [])) (accepts 0) (enrolled 7 ∷ [])
-    -- refusal 3's row: the empty record, a length field too large, kinds 22 and 257, an argument too few
+    -- refusal 3's row: the empty record, a length field too large, kinds 24 and 257, an argument too few
     ∷ try [] [] (refuses 3) []
     ∷ try [] (7 ∷ 0 ∷ 3 ∷ 0 ∷ 0 ∷ 1 ∷ []) (refuses 3) []
-    ∷ try [] (record-of 22 0 (1 ∷ [])) (refuses 3) []
+    ∷ try [] (record-of 24 0 (1 ∷ [])) (refuses 3) []
     ∷ try [] (6 ∷ 0 ∷ 1 ∷ 1 ∷ 16 ∷ 2 ∷ []) (refuses 3) []
     ∷ try [] (record-of 21 1 (5 ∷ 0 ∷ [])) (refuses 3) []
     -- refusal 4: an issuer enrols, the operator gives trust; before 5 and 6; 5 before 6
@@ -98,6 +98,51 @@ further-cases =
     ∷ try [] (record-of 3 16 (1 ∷ [])) (refuses 4) []
     ∷ try [] (record-of 3 17 (16 ∷ [])) (refuses 4) []
     ∷ try [] (record-of 3 2 (16 ∷ [])) (refuses 5) []
+    ∷ []
+
+-- 0 grants its own 0%1 to 0#2, and unpublishes 0#2
+abbrev indoors-again : History
+indoors-again = record-of 9 0 (1 ∷ []) ∷ record-of 13 0 (1 ∷ 0 ∷ 2 ∷ []) ∷ record-of 23 0 (2 ∷ []) ∷ []
+
+-- 1 trusts 0, and 0 attaches its 0#3 below 1#6, which is public
+abbrev round-trip : History
+round-trip = record-of 3 1 (0 ∷ []) ∷ record-of 7 1 (6 ∷ []) ∷ record-of 22 1 (6 ∷ []) ∷ record-of 15 0 (3 ∷ 1 ∷ 6 ∷ []) ∷ []
+
+-- Card 1: 'Some roles stay indoors'
+abbrev pub indoor-cases : List Case
+indoor-cases =
+    -- 0#3 is private: 1 can't link to it, and is told so before 12
+    try [] (record-of 13 1 (5 ∷ 0 ∷ 3 ∷ [])) (refuses 14) (public 0 3 ∷ [])
+    ∷ try [] (record-of 14 1 (5 ∷ 0 ∷ 3 ∷ [])) (refuses 14) []
+    ∷ try (record-of 7 1 (6 ∷ []) ∷ []) (record-of 15 1 (6 ∷ 0 ∷ 3 ∷ [])) (refuses 14) []
+    ∷ try (record-of 7 1 (6 ∷ []) ∷ []) (record-of 16 1 (6 ∷ 0 ∷ 3 ∷ [])) (refuses 14) []
+    -- but after 10: 1%6 and 1#6 aren't there
+    ∷ try [] (record-of 13 1 (6 ∷ 0 ∷ 3 ∷ [])) (refuses 10) (permission 1 6 ∷ [])
+    ∷ try [] (record-of 14 1 (6 ∷ 0 ∷ 3 ∷ [])) (refuses 10) []
+    ∷ try [] (record-of 15 1 (6 ∷ 0 ∷ 3 ∷ [])) (refuses 10) (role 1 6 ∷ [])
+    ∷ try [] (record-of 16 1 (6 ∷ 0 ∷ 3 ∷ [])) (refuses 10) []
+    -- and before 13: 0#3 is attached below 1#6, so that the other way round would close a circle
+    ∷ try round-trip (record-of 15 1 (6 ∷ 0 ∷ 3 ∷ [])) (refuses 14) (public 0 3 ∷ [])
+    ∷ try (round-trip ++ (record-of 22 0 (3 ∷ []) ∷ [])) (record-of 15 1 (6 ∷ 0 ∷ 3 ∷ [])) (refuses 13) []
+    -- 0 itself can
+    ∷ try (record-of 9 0 (1 ∷ []) ∷ []) (record-of 13 0 (1 ∷ 0 ∷ 3 ∷ [])) (accepts 0) (public 0 3 ∷ [])
+    ∷ try [] (record-of 15 0 (2 ∷ 0 ∷ 3 ∷ [])) (accepts 0) (public 0 3 ∷ [])
+    -- 'Unpublishing clears those that used it': 1's grant goes, 0's own stays
+    ∷ try indoors-again (record-of 21 1 (5 ∷ 0 ∷ 4 ∷ [])) (accepts 0) (public 0 2 ∷ granted 1 5 0 2 ∷ [])
+    ∷ try indoors-again (record-of 21 0 (1 ∷ 0 ∷ 4 ∷ [])) (accepts 1) (public 0 2 ∷ [])
+    -- so of attachments: 1's below 0#3 goes, 0's own below 0#2 stays
+    ∷ try (two-links-and (record-of 23 0 (3 ∷ []))) (record-of 21 1 (5 ∷ 0 ∷ 4 ∷ [])) (accepts 0) (attached 1 6 0 3 ∷ [])
+    ∷ try (two-links-and (record-of 23 0 (2 ∷ []))) (record-of 21 1 (5 ∷ 0 ∷ 4 ∷ [])) (accepts 1) (public 0 2 ∷ [])
+    -- published again, what was cleared doesn't come back, and can be granted anew
+    ∷ try (record-of 23 0 (2 ∷ []) ∷ record-of 22 0 (2 ∷ []) ∷ []) (record-of 21 1 (5 ∷ 0 ∷ 4 ∷ [])) (accepts 0) (granted 1 5 0 2 ∷ [])
+    ∷ try (record-of 23 0 (2 ∷ []) ∷ record-of 22 0 (2 ∷ []) ∷ []) (record-of 13 1 (5 ∷ 0 ∷ 2 ∷ [])) (accepts 0) []
+    -- a role that isn't there; one that is public already, or private already
+    ∷ try [] (record-of 22 0 (7 ∷ [])) (refuses 10) (role 0 7 ∷ [])
+    ∷ try [] (record-of 23 0 (7 ∷ [])) (refuses 10) (role 0 7 ∷ [])
+    ∷ try [] (record-of 22 0 (2 ∷ [])) (refuses 12) []
+    ∷ try [] (record-of 23 0 (3 ∷ [])) (refuses 12) (public 0 3 ∷ [])
+    -- 'a role starts private', also one that was public before it was removed
+    ∷ try (record-of 8 0 (2 ∷ []) ∷ record-of 7 0 (2 ∷ []) ∷ []) (record-of 13 1 (5 ∷ 0 ∷ 2 ∷ [])) (refuses 14) (public 0 2 ∷ [])
     ∷ []
 
 abbrev pub NoneStand : State → List Fact → Type 0

@@ -11,6 +11,7 @@ pub data Fact : Type 0 where
   enrolled : ℕ → Fact  -- i: the issuer i is enrolled
   trusts : ℕ → ℕ → Fact  -- i j: trust of i in j, so that j may grant its permissions to i's roles and attach its roles below them
   user role permission : ℕ → ℕ → Fact  -- i u, i r, i p: i@u, i#r, i%p is present
+  public : ℕ → ℕ → Fact  -- i r: i#r is public, so that i exposes it to its trustees (trustor-centric public role, MTAS, Definition 4)
   holds : ℕ → ℕ → ℕ → Fact  -- i u r: i@u holds i#r, a role of its own issuer (user assignment)
   granted : ℕ → ℕ → ℕ → ℕ → Fact  -- j p i r: j%p is granted to i#r, so that i#r holds it (permission assignment)
   attached : ℕ → ℕ → ℕ → ℕ → Fact  -- j q i r: j#q is attached below i#r, its direct senior (role inheritance)
@@ -28,6 +29,7 @@ numbers (trusts i j) = i ∷ j ∷ []
 numbers (user i u) = i ∷ u ∷ []
 numbers (role i r) = i ∷ r ∷ []
 numbers (permission i p) = i ∷ p ∷ []
+numbers (public i r) = i ∷ r ∷ []
 numbers (holds i u r) = i ∷ u ∷ r ∷ []
 numbers (granted j p i r) = j ∷ p ∷ i ∷ r ∷ []
 numbers (attached j q i r) = j ∷ q ∷ i ∷ r ∷ []

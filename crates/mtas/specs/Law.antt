@@ -1,4 +1,4 @@
--- The lawful states (document 01, 'Lawful means').
+-- The lawful states (document 01, 'Lawful means'; what Card 1 adds is in Needs).
 use mathlib.Core.Path.{_≡_}
 use mathlib.Core.List.{List, _∷_}
 use mathlib.Core.Bool.{Bool, true}

@@ -20,7 +20,7 @@ Fits ws (sixteen f) x = Unit
 Fits ws (its-user i s) x = (x < 16) ⊎ (x ≡ 65535)
 Fits ws (in-session i s f) x = read ws (session-user i s) ≡ 65535 → x ≡ 0
 
--- words are lawful where they are as many and as wide as document 01 says, each is one that its sort may be, and the state they say is lawful
+-- words are lawful where they are as many and as wide as the layout says, each is one that its sort may be, and the state they say is lawful
 pub record LawfulWords (ws : List ℕ) : Type 0 where
   pub long : length ws ≡ state-length
   pub wide : (k : ℕ) → getD ws k 0 < 65536

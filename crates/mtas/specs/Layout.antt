@@ -1,4 +1,4 @@
--- The state as 9,025 unsigned 16-bit words (document 01, 'The state').
+-- The state as 9,041 unsigned 16-bit words (document 01, 'The state'; the last sixteen are Card 1's).
 use mathlib.Core.List.{List, [], _∷_}
 use mathlib.Core.Bool.{Bool, true, false, _&&_}
 use Prim.Native.Nat.{ℕ, _+_, _-_, _*_, _/_, _%_}
@@ -6,7 +6,7 @@ use lib.Dec.{eqb, ltb}
 use lib.ListN.{getD}
 use Rattle.bits.specs.Bit.{bit}
 use Rattle.bits.specs.Below.{tabulate}
-use Rattle.mtas.specs.Fact.{Fact, enrolled, trusts, user, role, permission, holds, granted, attached, opened, active, numbers, above-15}
+use Rattle.mtas.specs.Fact.{Fact, enrolled, trusts, user, role, permission, public, holds, granted, attached, opened, active, numbers, above-15}
 use Rattle.mtas.specs.State.{State, packed, user-of}
 
 -- the words, by what they say
@@ -19,6 +19,7 @@ pub data Word : Type 0 where
   seniors : ℕ → ℕ → ℕ → Word  -- j q i: roles of i that are direct seniors of j#q
   session-user : ℕ → ℕ → Word  -- i s: the user of i/s, or 65535 when closed
   active-roles : ℕ → ℕ → Word  -- i s: the active roles of i/s
+  public-roles : ℕ → Word  -- i: the public roles of the issuer i
 
 -- where each region begins, and the state's length
 abbrev pub trusted-at : ℕ
@@ -45,8 +46,11 @@ seniors-at = 4417
 abbrev pub sessions-at : ℕ
 sessions-at = 8513
 
+abbrev pub public-at : ℕ
+public-at = 9025
+
 abbrev pub state-length : ℕ
-state-length = 9025
+state-length = 9041
 
 -- the words of grants, and as many of attachments
 abbrev pub links-length : ℕ
@@ -63,6 +67,7 @@ address (holders j p i) = holders-at + 16 * (16 * j + p) + i
 address (seniors j q i) = seniors-at + 16 * (16 * j + q) + i
 address (session-user i s) = sessions-at + 2 * (16 * i + s)
 address (active-roles i s) = sessions-at + 2 * (16 * i + s) + 1
+address (public-roles i) = public-at + i
 
 -- the words of a region, by their distance from where it begins
 pub record Region : Type 0 where
@@ -86,6 +91,7 @@ regions =
     ∷ region holders-at (λ k. holders (k / 256) (k / 16 % 16) (k % 16))
     ∷ region seniors-at (λ k. seniors (k / 256) (k / 16 % 16) (k % 16))
     ∷ region sessions-at session-word
+    ∷ region public-at public-roles
     ∷ []
 
 -- of the regions that begin at k or before it, the last one's word; w where there is none
@@ -115,6 +121,7 @@ cell (holders j p i) = sixteen (granted j p i)
 cell (seniors j q i) = sixteen (attached j q i)
 cell (session-user i s) = its-user i s
 cell (active-roles i s) = in-session i s (active i s)
+cell (public-roles i) = sixteen (public i)
 
 -- where a fact is said
 pub data Place : Type 0 where
@@ -129,6 +136,7 @@ place (trusts i j) = bit-of (trusted i) j
 place (user i u) = bit-of (users i) u
 place (role i r) = bit-of (roles i) r
 place (permission i p) = bit-of (permissions i) p
+place (public i r) = bit-of (public-roles i) r
 place (holds i u r) = bit-of (held i u) r
 place (granted j p i r) = bit-of (holders j p i) r
 place (attached j q i r) = bit-of (seniors j q i) r
@@ -136,7 +144,7 @@ place (opened i s u) = user-in i s u
 place (active i s u r) = bit-while i s u (active-roles i s) r
 
 -- 'In j's own name stand its .. trust word, its users, roles, permissions, held words and sessions, and the words of j%p and j#q':
--- in whose name a word stands. The enrolled bits stand each in its issuer's, so that word is nobody's, 16.
+-- in whose name a word stands, with 'the issuer whose call sets them' for the public roles. The enrolled bits stand each in its issuer's, so that word is nobody's, 16.
 abbrev pub owner : Word → ℕ
 owner enrolled-issuers = 16
 owner (trusted i) = i
@@ -148,6 +156,7 @@ owner (holders j p i) = j
 owner (seniors j q i) = j
 owner (session-user i s) = i
 owner (active-roles i s) = i
+owner (public-roles i) = i
 
 -- what a state holds in a word
 abbrev pub contents : State → Cell → ℕ

@@ -8,6 +8,7 @@ pub mod Rule
 pub mod Answer
 pub mod Cascades
 pub mod Layout
+pub mod Places
 pub mod LawTest
 pub mod Record
 pub mod Refusals
@@ -15,6 +16,7 @@ pub mod Monitor
 pub mod Decision
 pub mod Access
 pub mod Disclosure
+pub mod PublicRoles
 pub mod Histories
 pub mod Remaining
 pub mod Journal

@@ -4,7 +4,7 @@ use mathlib.Core.Bool.{Bool, true, false, _&&_, _||_}
 use Prim.Native.Nat.{ℕ, zero, suc, _+_, _*_, _/_, _%_}
 use lib.Dec.{eqb, ltb, leb}
 use lib.ListN.{length, getD, drop}
-use Rattle.mtas.specs.Call.{Call, AddIssuer, RemoveIssuer, AssignTrust, RevokeTrust, AddUser, RemoveUser, AddRole, RemoveRole, AddPerm, RemovePerm, AssignUser, RevokeUser, AssignPerm, RevokePerm, AssignRH, RevokeRH, CreateSession, DeleteSession, AddActiveRole, DropActiveRole, CheckAccess, arguments}
+use Rattle.mtas.specs.Call.{Call, AddIssuer, RemoveIssuer, AssignTrust, RevokeTrust, AddUser, RemoveUser, AddRole, RemoveRole, AddPerm, RemovePerm, AssignUser, RevokeUser, AssignPerm, RevokePerm, AssignRH, RevokeRH, CreateSession, DeleteSession, AddActiveRole, DropActiveRole, CheckAccess, PublishRole, UnpublishRole, arguments}
 
 -- a kind: how many arguments it has, and its call with them
 pub record Form : Type 0 where
@@ -20,7 +20,7 @@ two f = record { count = 2; call = λ x. f (x 0) (x 1) }
 abbrev three : (ℕ → ℕ → ℕ → Call) → Form
 three f = record { count = 3; call = λ x. f (x 0) (x 1) (x 2) }
 
--- the forms of kinds 1 to 21
+-- the forms of kinds 1 to 23
 abbrev pub forms : List Form
 forms =
     one AddIssuer ∷ one RemoveIssuer
@@ -33,7 +33,8 @@ forms =
     ∷ three AssignRH ∷ three RevokeRH
     ∷ two CreateSession ∷ one DeleteSession
     ∷ two AddActiveRole ∷ two DropActiveRole
-    ∷ three CheckAccess ∷ []
+    ∷ three CheckAccess
+    ∷ one PublishRole ∷ one UnpublishRole ∷ []
 
 pub data Kind : Type 0 where
   unknown : Kind
@@ -104,6 +105,8 @@ kind (DeleteSession s) = 18
 kind (AddActiveRole s r) = 19
 kind (DropActiveRole s r) = 20
 kind (CheckAccess p i s) = 21
+kind (PublishRole r) = 22
+kind (UnpublishRole r) = 23
 
 -- two bytes, little-endian
 abbrev as-two-bytes : ℕ → List ℕ

@@ -1,9 +1,10 @@
--- 'When a call is turned down' as document 01 has it: by refusal, with the kinds that each concerns. Proved to be what the rows of Rule try.
+-- 'When a call is turned down' as document 01 and Card 1 have it: by refusal, with the kinds that each concerns. Proved to be what the rows of Rule try.
 use mathlib.Core.List.{List, [], _∷_}
 use mathlib.Core.Bool.{true, false, not}
 use Prim.Native.Nat.{ℕ, zero, suc, _-_}
 use lib.Dec.{eqb, ltb}
-use Rattle.mtas.specs.Fact.{enrolled, trusts, user, role, permission, holds, granted, attached, opened, active, above-15}
+use Rattle.mtas.specs.Fact.{enrolled, trusts, user, role, permission, public, holds, granted, attached, opened, active, above-15}
+use Rattle.mtas.specs.Needs.{exposed}
 use Rattle.mtas.specs.Hierarchy.{_#_}
 use Rattle.mtas.specs.Call.{Call, arguments}
 use Rattle.mtas.specs.Record.{kind}
@@ -13,7 +14,7 @@ use Rattle.mtas.specs.Rule.{Guard, absent, present, wrong, reached, amon
 pub data Letter : Type 0 where
   issuer user-number role-number junior permission-number session-number : Letter
 
--- its third column, for kinds 1 to 21: i and j are issuers
+-- its third column, for kinds 1 to 21: i and j are issuers; then Card 1's two kinds
 abbrev columns : List (List Letter)
 columns =
     (issuer ∷ []) ∷ (issuer ∷ [])
@@ -26,7 +27,8 @@ columns =
     ∷ (junior ∷ issuer ∷ role-number ∷ []) ∷ (junior ∷ issuer ∷ role-number ∷ [])
     ∷ (session-number ∷ user-number ∷ []) ∷ (session-number ∷ [])
     ∷ (session-number ∷ role-number ∷ []) ∷ (session-number ∷ role-number ∷ [])
-    ∷ (permission-number ∷ issuer ∷ session-number ∷ []) ∷ []
+    ∷ (permission-number ∷ issuer ∷ session-number ∷ [])
+    ∷ (role-number ∷ []) ∷ (role-number ∷ []) ∷ []
 
 abbrev letter-number : Letter → ℕ
 letter-number issuer = 0
@@ -72,17 +74,18 @@ table u-of c k =
     let q = the junior k in
     let p = the permission-number k in
     let s = the session-number k in
-    of (1 ∷ 2 ∷ []) (wrong 4 (not (eqb c 16))) ∷ of (run 3 19) (wrong 4 (not (ltb c 16)))
-    ∷ of (run 3 19) (absent 5 (enrolled c))
-    ∷ of (run 1 21) (wrong 6 (above-15 (arguments k)))
+    of (1 ∷ 2 ∷ []) (wrong 4 (not (eqb c 16))) ∷ of (run 3 21) (wrong 4 (not (ltb c 16)))
+    ∷ of (run 3 21) (absent 5 (enrolled c))
+    ∷ of (run 1 23) (wrong 6 (above-15 (arguments k)))
     ∷ of (1 ∷ []) (present 7 (enrolled i)) ∷ of (2 ∷ 3 ∷ 4 ∷ run 13 4) (absent 7 (enrolled i))
     ∷ of (3 ∷ 4 ∷ []) (wrong 8 (eqb c i))
     ∷ of (run 13 4) (absent 9 (trusts i c))
     ∷ of (6 ∷ 11 ∷ 12 ∷ 17 ∷ []) (absent 10 (user c u))
     ∷ of (10 ∷ 13 ∷ 14 ∷ 21 ∷ []) (absent 10 (permission c p))
     ∷ of (15 ∷ 16 ∷ []) (absent 10 (role c q)) ∷ of (run 13 4) (absent 10 (role i r))
-    ∷ of (8 ∷ 11 ∷ 12 ∷ 19 ∷ 20 ∷ []) (absent 10 (role c r))
+    ∷ of (8 ∷ 11 ∷ 12 ∷ 19 ∷ 20 ∷ 22 ∷ 23 ∷ []) (absent 10 (role c r))
     ∷ of (18 ∷ 19 ∷ 20 ∷ []) (absent 10 (opened c s (u-of s)))
+    ∷ of (run 13 4) (absent 14 (exposed c i r))
     ∷ of (19 ∷ []) (absent 11 (holds c (u-of s) r))
     ∷ of (3 ∷ []) (present 12 (trusts c i)) ∷ of (4 ∷ []) (absent 12 (trusts c i))
     ∷ of (5 ∷ []) (present 12 (user c u))
@@ -93,6 +96,7 @@ table u-of c k =
     ∷ of (15 ∷ []) (present 12 (attached c q i r)) ∷ of (16 ∷ []) (absent 12 (attached c q i r))
     ∷ of (17 ∷ []) (present 12 (opened c s (u-of s)))
     ∷ of (19 ∷ []) (present 12 (active c s (u-of s) r)) ∷ of (20 ∷ []) (absent 12 (active c s (u-of s) r))
+    ∷ of (22 ∷ []) (present 12 (public c r)) ∷ of (23 ∷ []) (absent 12 (public c r))
     ∷ of (15 ∷ []) (reached 13 (c # q) (i # r))
     ∷ []
 

@@ -1,14 +1,14 @@
--- The table of the calls: whose each is, its causes of refusal in order, and its effect (document 01, 'The call record', 'When a call is turned down').
+-- The table of the calls: whose each is, its causes of refusal in order, and its effect (document 01, 'The call record', 'When a call is turned down'; Card 1).
 use mathlib.Core.List.{List, [], _∷_, _++_}
 use mathlib.Core.Bool.{Bool, true, false, not, _&&_}
 use Prim.Native.Nat.{ℕ}
 use lib.Dec.{eqb, ltb}
-use Rattle.mtas.specs.Fact.{Fact, enrolled, trusts, user, role, permission, holds, granted, attached, opened, active, above-15}
-use Rattle.mtas.specs.Needs.{enrolment}
+use Rattle.mtas.specs.Fact.{Fact, enrolled, trusts, user, role, permission, public, holds, granted, attached, opened, active, above-15}
+use Rattle.mtas.specs.Needs.{enrolment, exposed}
 use Rattle.mtas.specs.State.{State}
 use Rattle.mtas.specs.Hierarchy.{Role, _#_, reaches}
 use Rattle.mtas.specs.Law.{attachments}
-use Rattle.mtas.specs.Call.{Call, AddIssuer, RemoveIssuer, AssignTrust, RevokeTrust, AddUser, RemoveUser, AddRole, RemoveRole, AddPerm, RemovePerm, AssignUser, RevokeUser, AssignPerm, RevokePerm, AssignRH, RevokeRH, CreateSession, DeleteSession, AddActiveRole, DropActiveRole, CheckAccess, arguments}
+use Rattle.mtas.specs.Call.{Call, AddIssuer, RemoveIssuer, AssignTrust, RevokeTrust, AddUser, RemoveUser, AddRole, RemoveRole, AddPerm, RemovePerm, AssignUser, RevokeUser, AssignPerm, RevokePerm, AssignRH, RevokeRH, CreateSession, DeleteSession, AddActiveRole, DropActiveRole, CheckAccess, PublishRole, UnpublishRole, arguments}
 
 -- a cause of refusal, with its number
 pub data Guard : Type 0 where
@@ -36,7 +36,7 @@ row w l e = record { whose = w; causes = l; effect = e }
 
 -- what kinds 13 to 16 from c try first, which link or unlink a thing of the caller's own and i#r
 abbrev pub link-causes : ℕ → ℕ → ℕ → Fact → List Guard → List Guard
-link-causes c i r own l = absent 7 (enrolled i) ∷ absent 9 (trusts i c) ∷ absent 10 own ∷ absent 10 (role i r) ∷ l
+link-causes c i r own l = absent 7 (enrolled i) ∷ absent 9 (trusts i c) ∷ absent 10 own ∷ absent 10 (role i r) ∷ absent 14 (exposed c i r) ∷ l
 
 -- the row of a call from c; the session c/s is open for c@(u-of s), or closed
 abbrev pub rule : (ℕ → ℕ) → ℕ → Call → Rule
@@ -61,6 +61,8 @@ rule u-of c (DeleteSession s) = row issuer's (absent 10 (opened c s (u-of s)) �
 rule u-of c (AddActiveRole s r) = row issuer's (absent 10 (role c r) ∷ absent 10 (opened c s (u-of s)) ∷ absent 11 (holds c (u-of s) r) ∷ present 12 (active c s (u-of s) r) ∷ []) (puts (active c s (u-of s) r ∷ []))
 rule u-of c (DropActiveRole s r) = row issuer's (absent 10 (role c r) ∷ absent 10 (opened c s (u-of s)) ∷ absent 12 (active c s (u-of s) r) ∷ []) (cuts (active c s (u-of s) r))
 rule u-of c (CheckAccess p i s) = row issuer's (absent 10 (permission c p) ∷ []) (decides p i s)
+rule u-of c (PublishRole r) = row issuer's (absent 10 (role c r) ∷ present 12 (public c r) ∷ []) (puts (public c r ∷ []))
+rule u-of c (UnpublishRole r) = row issuer's (absent 10 (role c r) ∷ absent 12 (public c r) ∷ []) (cuts (public c r))
 
 -- 'caller above 16; kinds 1, 2 not from 16; other kinds from 16'
 abbrev pub may-call : Whose → ℕ → Bool
@@ -92,18 +94,23 @@ applies st (present n f) = st .stands f
 applies st (wrong n b) = b
 applies st (reached n a b) = reaches (attachments st) a b
 
--- the refusals, in the order in which they are tried
+-- the refusals, in the order in which they are tried; 14 is tried 'directly after 10'
 abbrev pub refusals : List ℕ
-refusals = 1 ∷ 2 ∷ 3 ∷ 4 ∷ 5 ∷ 6 ∷ 7 ∷ 8 ∷ 9 ∷ 10 ∷ 11 ∷ 12 ∷ 13 ∷ []
+refusals = 1 ∷ 2 ∷ 3 ∷ 4 ∷ 5 ∷ 6 ∷ 7 ∷ 8 ∷ 9 ∷ 10 ∷ 14 ∷ 11 ∷ 12 ∷ 13 ∷ []
+
+abbrev pub among-numbers : ℕ → List ℕ → Bool
+among-numbers n [] = false
+among-numbers n (m ∷ l) = elim (eqb n m) [ true ↦ true | false ↦ among-numbers n l ]
+
+-- no number comes twice
+abbrev pub each-once : List ℕ → Bool
+each-once [] = true
+each-once (n ∷ l) = not (among-numbers n l) && each-once l
 
 -- the list from its first n on
 abbrev pub from-first : ℕ → List ℕ → List ℕ
 from-first n [] = []
 from-first n (m ∷ l) = elim (eqb n m) [ true ↦ m ∷ l | false ↦ from-first n l ]
-
-abbrev pub among-numbers : ℕ → List ℕ → Bool
-among-numbers n [] = false
-among-numbers n (m ∷ l) = elim (eqb n m) [ true ↦ true | false ↦ among-numbers n l ]
 
 -- the guards are tried in the order of the list
 abbrev pub in-order : List ℕ → List Guard → Bool
