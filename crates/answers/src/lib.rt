@@ -39,11 +39,11 @@ fn cause(guard: Guard) -> u16
 }
 
 // The cause of the first guard that applies, 0 where none does.
-fn first_cause(state: &[u16], guards: [Guard; 6]) -> u16
+fn first_cause(state: &[u16], guards: [Guard; 7]) -> u16
     requires { ⌜ LawfulWords (now state) ⌝ }
     ensures { λ n. ⌜ Tried (view (now (state .entry))) (guards-of guards) n ⌝ }
 {
-    for k in 0..6 {
+    for k in 0..7 {
         let guard = guards[k];
         if applies(state, guard) {
             return cause(guard);

@@ -18,12 +18,13 @@ fn enrol_and_trust(state: &mut [u16]) {
     monitor::call(state, b"\x06\x00\x03\x00\x00\x01");
 }
 
-// 0@3 holds 0#2, and 0#3 is present and unheld.
+// 0@3 holds 0#2, which is public, and 0#3 is present and unheld.
 fn add_and_hold(state: &mut [u16]) {
     monitor::call(state, b"\x06\x00\x05\x00\x00\x03");
     monitor::call(state, b"\x06\x00\x07\x00\x00\x02");
     monitor::call(state, b"\x06\x00\x07\x00\x00\x03");
     monitor::call(state, b"\x07\x00\x0b\x00\x00\x03\x02");
+    monitor::call(state, b"\x06\x00\x16\x00\x00\x02");
 }
 
 // 0/4 is open for 0@3 with role 2 active, and 1%5 is granted to 0#2.

@@ -11,7 +11,7 @@ use Rattle.mtas.specs.Fact.{Fact, enrolled, trusts, opened, same, numbers, Belo
 use Rattle.mtas.specs.Needs.{needs}
 use Rattle.mtas.specs.State.{State, user-of}
 use Rattle.mtas.specs.Law.{Lawful, In, here, there}
-use Rattle.mtas.specs.Call.{Call, AddIssuer, RemoveIssuer, AssignTrust, RevokeTrust, AddUser, RemoveUser, AddRole, RemoveRole, AddPerm, RemovePerm, AssignUser, RevokeUser, AssignPerm, RevokePerm, AssignRH, RevokeRH, CreateSession, DeleteSession, AddActiveRole, DropActiveRole, CheckAccess}
+use Rattle.mtas.specs.Call.{Call, AddIssuer, RemoveIssuer, AssignTrust, RevokeTrust, AddUser, RemoveUser, AddRole, RemoveRole, AddPerm, RemovePerm, AssignUser, RevokeUser, AssignPerm, RevokePerm, AssignRH, RevokeRH, CreateSession, DeleteSession, AddActiveRole, DropActiveRole, CheckAccess, PublishRole, UnpublishRole}
 use Rattle.mtas.specs.Rule as model
 use Rattle.mtas.specs.Answer as answers
 use Rattle.mtas.specs.Layout.{Word, in-session, cell, bit-while, place, encode, view}
@@ -67,14 +67,16 @@ module _ (st : State) (L : Lawful st) where
   acts c (AssignUser u r) p = (tt, tt)
   acts c (RevokeUser u r) p = (p .own .1 .1 .0, λ i. refl)
   acts c (AssignPerm x i r) p = (tt, tt)
-  acts c (RevokePerm x i r) p = (p .own .1 .1 .1 .1 .0, λ i. refl)
+  acts c (RevokePerm x i r) p = (p .own .1 .1 .1 .1 .1 .0, λ i. refl)
   acts c (AssignRH q i r) p = (tt, tt)
-  acts c (RevokeRH q i r) p = (p .own .1 .1 .1 .1 .0, λ i. refl)
+  acts c (RevokeRH q i r) p = (p .own .1 .1 .1 .1 .1 .0, λ i. refl)
   acts c (CreateSession s u) p = let n = closed st L c s (p .own .1 .0) in ((n, idle c s n), tt)
   acts c (DeleteSession s) p = (p .own .0, λ i. refl)
   acts c (AddActiveRole s r) p = (refl, tt)
   acts c (DropActiveRole s r) p = (p .own .1 .1 .0, λ i. refl)
   acts c (CheckAccess x i s) p = tt
+  acts c (PublishRole r) p = (tt, tt)
+  acts c (UnpublishRole r) p = (p .own .1 .0, λ i. refl)
 
 module _ {ws : List ℕ} {c : ℕ} {k : Call} {x y : Effect} (a : Accepted ws c k) (e : IsEffect (view ws) c k x) (d : x ≡ y) where
   effect-is : model.rule (user-of (view ws) c) c k .effect ≡ effect-of y

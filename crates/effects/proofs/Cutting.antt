@@ -28,7 +28,8 @@ use Rattle.effects.specs.declared.sweep.Sweep.{Sweep}
 use Rattle.effects.specs.Strips.{strips, nth, covers, keep, AllLie, spares, Kept}
 use Rattle.effects.specs.Sweeps.{sweep-of, IsSweep, meant, roles-after, reached, session-at, Swept}
 use Rattle.effects.specs.Cut.{Apart, MayCut, Cut}
-use Rattle.effects.proofs.Relied.{Hits, Relies, takes, Hit, taken}
+use Rattle.effects.proofs.Relied.{Hits, Relies, takes}
+use Rattle.effects.proofs.Taken.{Hit, taken}
 use Rattle.effects.proofs.Swept.{Meets, Closes, Drops, with-session, alone, goes, session-goes, role-goes, sweep-ends}
 
 -- ---- strips

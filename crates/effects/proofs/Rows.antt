@@ -20,8 +20,8 @@ module _ {f : model.Fact} {k n a b m o : ℕ} (e : k ≡ n) where
   pub run-row : {c : ℕ} → nth (strips f) n ≡ Run b c o → a ≡ b → m ≡ o → IsStrip f k (Run a c m)
   run-row {c} h p q = record { is = (λ i. Run (p i) c (q i)) ∙ sym h ∙ ap (nth (strips f)) (sym e) }
 
-  pub column-row : {c : ℕ} → nth (strips f) n ≡ Column b c o → a ≡ b → m ≡ o → IsStrip f k (Column a c m)
-  column-row {c} h p q = record { is = (λ i. Column (p i) c (q i)) ∙ sym h ∙ ap (nth (strips f)) (sym e) }
+  pub column-row : {c d : ℕ} → nth (strips f) n ≡ Column b d o → a ≡ b → c ≡ d → m ≡ o → IsStrip f k (Column a c m)
+  column-row h p s q = record { is = (λ i. Column (p i) (s i) (q i)) ∙ sym h ∙ ap (nth (strips f)) (sym e) }
 
 module _ {f g : Fact} (e : f ≡ g) where
   pub strip-as : {k : ℕ} {s : Strip} → IsStrip (fact-of g) k s → IsStrip (fact-of f) k s

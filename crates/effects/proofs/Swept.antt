@@ -6,7 +6,7 @@ use native.Mathlib.Omega.{arith}
 use borrow.Author.Tests.{eqb-true, eq-eqb}
 use Rattle.bits.specs.Bit.{bit}
 use Rattle.bits.proofs.Booleans.{clash}
-use Rattle.mtas.specs.Fact.{Fact, enrolled, trusts, user, role, permission, holds, granted, attached, opened, active, numbers, Below16}
+use Rattle.mtas.specs.Fact.{Fact, enrolled, trusts, user, role, permission, public, holds, granted, attached, opened, active, numbers, Below16}
 use Rattle.mtas.specs.Law.{In, here, there}
 use Rattle.mtas.proofs.Facts.{All, same-refl, roots}
 use Rattle.effects.specs.declared.sweep.Sweep.{Sweep}
@@ -54,6 +54,7 @@ module _ {i s u : ℕ} (li : i < 16) (ls : s < 16) where
       let e : j ≡ i = omega arith in
       dropping-goes refl (λ n l q. rw (e, only-bit (omega arith) n l q) (search (here, there)))
   goes (permission j p) h m = let a = its-range _ m in absurd (omega arith)
+  goes (public j r) h m = let a = its-range _ m in absurd (omega arith)
   goes (holds j v r) h m =
       let a = its-range _ m in
       let e : j ≡ i = omega arith in
@@ -112,6 +113,7 @@ sweep-ends (trusts i j) h = omega arith
 sweep-ends (user i u) h = omega arith
 sweep-ends (role i r) h = omega arith
 sweep-ends (permission i p) h = omega arith
+sweep-ends (public i r) h = omega arith
 sweep-ends (holds i u r) h = omega arith
 sweep-ends (granted j p i r) h = omega arith
 sweep-ends (attached j q i r) h = omega arith

@@ -8,24 +8,29 @@ use Rattle.bits.specs.Bit.{bit}
 use Rattle.bits.specs.Below.{all-below}
 use Rattle.bits.specs.Stride.{in-run, in-column}
 use Rattle.bits.specs.Update.{Masked}
-use Rattle.mtas.specs.Fact.{Fact, enrolled, trusts, user, role, permission, holds, granted, attached, opened, active}
-use Rattle.mtas.specs.Layout.{address, enrolled-issuers, trusted, users, roles, permissions, held, holders, seniors}
+use Rattle.mtas.specs.Fact.{Fact, enrolled, trusts, user, role, permission, public, holds, granted, attached, opened, active}
+use Rattle.mtas.specs.Layout.{address, enrolled-issuers, trusted, users, roles, permissions, held, holders, seniors, public-roles}
 use Rattle.effects.specs.declared.strips.Strip.{Strip}
 use Rattle.effects.specs.declared.strips.Strip.the-variants.{Word, Run, Column}
 
--- the bits of a fact and of all that needs it, but for sessions
+-- the bits of a fact and of all that needs it, but for sessions; where a role is no longer public, the words of its own issuer's links are left out
 abbrev pub strips : Fact → List Strip
 strips (enrolled i) =
     Word (address enrolled-issuers) (65535 - 2 ^ i) ∷ Run (address (trusted 0)) 16 (65535 - 2 ^ i)
     ∷ Word (address (trusted i)) 0 ∷ Word (address (users i)) 0 ∷ Word (address (roles i)) 0 ∷ Word (address (permissions i)) 0 ∷ Run (address (held i 0)) 16 0
     ∷ Run (address (holders i 0 0)) 256 0 ∷ Column (address (holders 0 0 i)) 256 0
-    ∷ Run (address (seniors i 0 0)) 256 0 ∷ Column (address (seniors 0 0 i)) 256 0 ∷ []
+    ∷ Run (address (seniors i 0 0)) 256 0 ∷ Column (address (seniors 0 0 i)) 256 0 ∷ Word (address (public-roles i)) 0 ∷ []
 strips (trusts i j) = Word (address (trusted i)) (65535 - 2 ^ j) ∷ Column (address (holders j 0 i)) 16 0 ∷ Column (address (seniors j 0 i)) 16 0 ∷ []
 strips (user i u) = Word (address (users i)) (65535 - 2 ^ u) ∷ Word (address (held i u)) 0 ∷ []
 strips (role i r) =
     Word (address (roles i)) (65535 - 2 ^ r) ∷ Run (address (held i 0)) 16 (65535 - 2 ^ r)
-    ∷ Column (address (holders 0 0 i)) 256 (65535 - 2 ^ r) ∷ Column (address (seniors 0 0 i)) 256 (65535 - 2 ^ r) ∷ Run (address (seniors i r 0)) 16 0 ∷ []
+    ∷ Column (address (holders 0 0 i)) 256 (65535 - 2 ^ r) ∷ Column (address (seniors 0 0 i)) 256 (65535 - 2 ^ r) ∷ Run (address (seniors i r 0)) 16 0
+    ∷ Word (address (public-roles i)) (65535 - 2 ^ r) ∷ []
 strips (permission i p) = Word (address (permissions i)) (65535 - 2 ^ p) ∷ Run (address (holders i p 0)) 16 0 ∷ []
+strips (public i r) =
+    Word (address (public-roles i)) (65535 - 2 ^ r)
+    ∷ Column (address (holders 0 0 i)) (16 * i) (65535 - 2 ^ r) ∷ Column (address (holders (i + 1) 0 i)) (240 - 16 * i) (65535 - 2 ^ r)
+    ∷ Column (address (seniors 0 0 i)) (16 * i) (65535 - 2 ^ r) ∷ Column (address (seniors (i + 1) 0 i)) (240 - 16 * i) (65535 - 2 ^ r) ∷ []
 strips (holds i u r) = Word (address (held i u)) (65535 - 2 ^ r) ∷ []
 strips (granted j p i r) = Word (address (holders j p i)) (65535 - 2 ^ r) ∷ []
 strips (attached j q i r) = Word (address (seniors j q i)) (65535 - 2 ^ r) ∷ []

@@ -6,7 +6,7 @@ use Prim.Native.Nat.{ℕ, _+_, _-_, _*_, _^_, _<_}
 use lib.Bits.{bitAnd}
 use lib.Dec.{eqb, leb, ltb}
 use lib.ListN.{length, getD, set}
-use Rattle.mtas.specs.Fact.{Fact, enrolled, trusts, user, role, permission, holds, granted, attached, opened, active}
+use Rattle.mtas.specs.Fact.{Fact, enrolled, trusts, user, role, permission, public, holds, granted, attached, opened, active}
 use Rattle.mtas.specs.Layout.{sessions-at}
 use Rattle.effects.specs.declared.sweep.Sweep.{Sweep}
 
@@ -26,6 +26,7 @@ sweep-of (trusts i j) = no-sweep
 sweep-of (user i u) = closing (16 * i) 16 false u
 sweep-of (role i r) = dropping (16 * i) 16 true 0 r
 sweep-of (permission i p) = no-sweep
+sweep-of (public i r) = no-sweep
 sweep-of (holds i u r) = dropping (16 * i) 16 false u r
 sweep-of (granted j p i r) = no-sweep
 sweep-of (attached j q i r) = no-sweep

@@ -1,8 +1,8 @@
 // The bits that go where a fact is cut: runs and columns of words, and the bits that each keeps.
 ghost use mathlib.Core.Path.{_≡_};
-ghost use Prim.Native.Nat.{_-_, _^_, _<_};
+ghost use Prim.Native.Nat.{_-_, _*_, _^_, _<_};
 ghost use lib.ListN.{length};
-ghost use Rattle.mtas.specs.Fact.{enrolled, trusts, user, role, permission};
+ghost use Rattle.mtas.specs.Fact.{enrolled, trusts, user, role, permission, public};
 ghost use Rattle.facts.specs.Table.{fact-of};
 ghost use Rattle.effects.specs.Strips.{strips, Counted, HasStrip, IsStrip, Lies, AllLie, StripMasked, Kept};
 use facts::Fact;
@@ -29,11 +29,12 @@ fn count(fact: Fact) -> usize
     ensures { λ r. ⌜ Counted (fact-of fact) r ⌝ }
 {
     match fact {
-        Fact::Enrolled(_) => 11,
+        Fact::Enrolled(_) => 12,
         Fact::Trusts(_, _) => 3,
         Fact::User(_, _) => 2,
-        Fact::Role(_, _) => 5,
+        Fact::Role(_, _) => 6,
         Fact::Permission(_, _) => 2,
+        Fact::Public(_, _) => 5,
         Fact::Holds(_, _, _) => 1,
         Fact::Granted(_, _, _, _) => 1,
         Fact::Attached(_, _, _, _) => 1,
@@ -44,7 +45,7 @@ fn count(fact: Fact) -> usize
 
 // Of an issuer: its bit in words 0 to 16, its own words, and its roles in the words of others.
 fn issuer_strip(i: u8, k: usize) -> Strip
-    requires { ⌜ k < 11 ⌝ }
+    requires { ⌜ k < 12 ⌝ }
     ensures { λ r. ⌜ IsStrip (enrolled i) k r ⌝ }
 {
     if k < 6 {
@@ -62,7 +63,8 @@ fn issuer_strip(i: u8, k: usize) -> Strip
         7 => Strip::Run(layout::holders(i, 0, 0), 256, 0),
         8 => Strip::Column(layout::holders(0, 0, i), 256, 0),
         9 => Strip::Run(layout::seniors(i, 0, 0), 256, 0),
-        _ => Strip::Column(layout::seniors(0, 0, i), 256, 0),
+        10 => Strip::Column(layout::seniors(0, 0, i), 256, 0),
+        _ => Strip::Word(layout::public_roles(i), 0),
     }
 }
 
@@ -98,7 +100,7 @@ fn permission_strip(i: u8, p: u8, k: usize) -> Strip
 }
 
 fn role_strip(i: u8, r: u8, k: usize) -> Strip
-    requires { ⌜ k < 5 ⌝ }
+    requires { ⌜ k < 6 ⌝ }
     ensures { λ s. ⌜ IsStrip (role i r) k s ⌝ }
 {
     match k {
@@ -106,7 +108,32 @@ fn role_strip(i: u8, r: u8, k: usize) -> Strip
         1 => Strip::Run(layout::held(i, 0), 16, all_but(r)),
         2 => Strip::Column(layout::holders(0, 0, i), 256, all_but(r)),
         3 => Strip::Column(layout::seniors(0, 0, i), 256, all_but(r)),
-        _ => Strip::Run(layout::seniors(i, r, 0), 16, 0),
+        4 => Strip::Run(layout::seniors(i, r, 0), 16, 0),
+        _ => Strip::Word(layout::public_roles(i), all_but(r)),
+    }
+}
+
+// How many permissions, or roles, the issuers behind i have.
+fn behind(i: u8) -> usize
+    ensures { λ r. ⌜ r ≡ 240 - 16 * i ⌝ }
+{
+    if 15 <= i {
+        return 0;
+    }
+    240 - 16 * (i as usize)
+}
+
+// Of a public role: its bit, and in two columns each the grants and attachments of the issuers before i and of those behind it.
+fn public_strip(i: u8, r: u8, k: usize) -> Strip
+    requires { ⌜ k < 5 ⌝ }
+    ensures { λ s. ⌜ IsStrip (public i r) k s ⌝ }
+{
+    match k {
+        0 => Strip::Word(layout::public_roles(i), all_but(r)),
+        1 => Strip::Column(layout::holders(0, 0, i), 16 * (i as usize), all_but(r)),
+        2 => Strip::Column(layout::holders(i, 15, i) + 16, behind(i), all_but(r)),
+        3 => Strip::Column(layout::seniors(0, 0, i), 16 * (i as usize), all_but(r)),
+        _ => Strip::Column(layout::seniors(i, 15, i) + 16, behind(i), all_but(r)),
     }
 }
 
@@ -121,6 +148,7 @@ fn strip_of(fact: Fact, k: usize) -> Strip
         Fact::User(i, u) => user_strip(i, u, k),
         Fact::Role(i, r) => role_strip(i, r, k),
         Fact::Permission(i, p) => permission_strip(i, p, k),
+        Fact::Public(i, r) => public_strip(i, r, k),
         Fact::Holds(i, u, r) => Strip::Word(layout::held(i, u), all_but(r)),
         Fact::Granted(j, p, i, r) => Strip::Word(layout::holders(j, p, i), all_but(r)),
         Fact::Attached(j, q, i, r) => Strip::Word(layout::seniors(j, q, i), all_but(r)),

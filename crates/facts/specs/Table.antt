@@ -10,7 +10,7 @@ use Rattle.mtas.specs.Fact as model
 use Rattle.mtas.specs.State.{State, user-of}
 use Rattle.mtas.specs.Layout as words
 use Rattle.facts.specs.declared.Fact.{Fact}
-use Rattle.facts.specs.declared.Fact.the-variants.{Enrolled, Trusts, User, Role, Permission, Holds, Granted, Attached, Opened, Active}
+use Rattle.facts.specs.declared.Fact.the-variants.{Enrolled, Trusts, User, Role, Permission, Public, Holds, Granted, Attached, Opened, Active}
 use Rattle.facts.specs.declared.Place.{Place}
 use Rattle.facts.specs.declared.Place.the-variants.{Nowhere, Bit, Number, While}
 
@@ -20,6 +20,7 @@ fact-of (Trusts i j) = model.trusts i j
 fact-of (User i u) = model.user i u
 fact-of (Role i r) = model.role i r
 fact-of (Permission i p) = model.permission i p
+fact-of (Public i r) = model.public i r
 fact-of (Holds i u r) = model.holds i u r
 fact-of (Granted j p i r) = model.granted j p i r
 fact-of (Attached j q i r) = model.attached j q i r

@@ -13,6 +13,7 @@ pub enum Fact {
     User(u8, u8),
     Role(u8, u8),
     Permission(u8, u8),
+    Public(u8, u8),
     Holds(u8, u16, u8),
     Granted(u8, u8, u8, u8),
     Attached(u8, u8, u8, u8),
@@ -64,6 +65,7 @@ pub fn place_of(fact: Fact) -> Place
         Fact::User(i, u) => unless_above(i, u, 0, 0, Place::Bit(layout::users(i), u)),
         Fact::Role(i, r) => unless_above(i, r, 0, 0, Place::Bit(layout::roles(i), r)),
         Fact::Permission(i, p) => unless_above(i, p, 0, 0, Place::Bit(layout::permissions(i), p)),
+        Fact::Public(i, r) => unless_above(i, r, 0, 0, Place::Bit(layout::public_roles(i), r)),
         Fact::Holds(i, u, r) => unless_above(i, 0, u, r, Place::Bit(layout::held(i, u), r)),
         Fact::Granted(j, p, i, r) => {
             unless_above(j, p, i as u16, r, Place::Bit(layout::holders(j, p, i), r))

@@ -2,20 +2,23 @@
 use mathlib.Core.Path.{_≡_, refl, sym, _∙_}
 use mathlib.Core.List.{List}
 use mathlib.Core.Logic.{_↔_, _⊎_, inl, inr}
-use mathlib.Core.Bool.{Bool, true, false}
+use mathlib.Core.Bool.{Bool, true, false, cond}
 use Prim.Native.Nat.{ℕ, _+_, _*_, _<_, _≤_}
 use native.Mathlib.Decide.{ℕ-discrete}
 use native.Mathlib.Omega.{arith}
 use lib.Bits.{bitOr}
+use lib.Dec.{eqb}
 use lib.ListN.{getD}
 use Rattle.bits.specs.Bit.{bit}
 use Rattle.bits.specs.Gather.{gather}
 use Rattle.bits.proofs.Booleans.{below-or-not}
 use Rattle.bits.proofs.Gather.{or-zero, gather-zero, stray-zero}
-use Rattle.mtas.specs.Fact.{Fact, enrolled, trusts, user, role, permission, holds, granted, attached}
-use Rattle.mtas.specs.Layout.{Word, address, enrolled-issuers, trusted, users, roles, permissions, held, session-user, active-roles, holders-at, seniors-at, cell, read, says}
+use Rattle.mtas.specs.Fact.{Fact, enrolled, trusts, user, role, permission, public, holds, granted, attached}
+use Rattle.mtas.specs.Needs.{exposed}
+use Rattle.mtas.specs.Layout.{Word, address, enrolled-issuers, trusted, users, roles, permissions, held, session-user, active-roles, public-roles, holders-at, seniors-at, cell, read, says}
 use Rattle.mtas.specs.LawTest.{Fits}
-use Rattle.law.specs.Stray.{outside, allowed, trust-stray, present-stray, own-stray, held-stray, rows-stray, session-stray, sessions-stray, issuer-stray}
+use Rattle.mtas.proofs.Exposed.{own-exposed, other-exposed}
+use Rattle.law.specs.Stray.{outside, allowed, exposed-roles, trust-stray, present-stray, public-stray, own-stray, held-stray, rows-stray, session-stray, sessions-stray, issuer-stray}
 use Rattle.law.proofs.Inside.{inside-if, inside-if-both, none-unless, has-if}
 use Rattle.law.proofs.Sessions.{user-present, user-absent, closed, no-user}
 
@@ -30,6 +33,14 @@ module _ (ws : List ℕ) where
   abbrev pub Stated : Fact → Type 0
   Stated f = says ws f ≡ true
 
+  -- the exposed roles are those that the words say are exposed
+  exposed-bit : (j i r : ℕ) → bit (exposed-roles ws j i) r ≡ says ws (exposed j i r)
+  exposed-bit j i r = go (eqb j i) refl
+    where
+      go : (b : Bool) → eqb j i ≡ b → bit (cond b (read ws (roles i)) (read ws (public-roles i))) r ≡ says ws (exposed j i r)
+      go true e = rw (own-exposed j i r e)
+      go false e = rw (other-exposed j i r e)
+
   abbrev Trust : ℕ → Type 0
   Trust i = (j : ℕ) → j < 16 → Stated (trusts i j) → Stated (enrolled i) × Stated (enrolled j)
 
@@ -39,13 +50,16 @@ module _ (ws : List ℕ) where
   abbrev Owned : ℕ → (ℕ → Fact) → Type 0
   Owned i f = (n : ℕ) → n < 16 → Stated (f n) → Stated (enrolled i)
 
+  abbrev Public : ℕ → Type 0
+  Public i = (r : ℕ) → r < 16 → Stated (public i r) → Stated (role i r)
+
   abbrev Held : ℕ → Type 0
   Held i = (u : ℕ) → u < 16 → (r : ℕ) → r < 16 → Stated (holds i u r) → Stated (user i u) × Stated (role i r)
 
   -- both ends of the grants of j's permissions, or of the attachments of j's roles
   abbrev Ends : ℕ → (ℕ → Fact) → (ℕ → ℕ → ℕ → Fact) → Type 0
   Ends j owned link =
-      (p : ℕ) → p < 16 → (i : ℕ) → i < 16 → (r : ℕ) → r < 16 → Stated (link p i r) → Stated (owned p) × Stated (trusts i j) × Stated (role i r)
+      (p : ℕ) → p < 16 → (i : ℕ) → i < 16 → (r : ℕ) → r < 16 → Stated (link p i r) → Stated (owned p) × Stated (trusts i j) × Stated (exposed j i r)
 
   -- a session is open or closed, and a closed one has no active roles; an open one's user is present and holds them
   abbrev Session : ℕ → ℕ → Type 0
@@ -62,17 +76,19 @@ module _ (ws : List ℕ) where
     pub users-of : Owned i (user i)
     pub roles-of : Owned i (role i)
     pub permissions-of : Owned i (permission i)
+    pub public-of : Public i
     pub held-by : Held i
     pub grants : Ends i (permission i) (granted i)
     pub attachments-of : Ends i (role i) (attached i)
     pub sessions : (s : ℕ) → s < 16 → Session i s
 
   module _ (wide : (k : ℕ) → getD ws k 0 < 65536) (i : ℕ) (li : i < 16) where
-    own-zero : (own-stray ws i ≡ 0) ↔ ((Trust i × Itself i) × ((Owned i (user i) × Owned i (role i)) × Owned i (permission i)))
-    unfolding own-stray trust-stray present-stray
+    own-zero : (own-stray ws i ≡ 0) ↔ (((Trust i × Itself i) × ((Owned i (user i) × Owned i (role i)) × Owned i (permission i))) × Public i)
+    unfolding own-stray trust-stray present-stray public-stray
     own-zero =
-        or-iff (or-iff (inside-if here _ _ (word (trusted i)) (word enrolled-issuers)) (has-if here _ i (word (trusted i)) li))
-        (or-iff (or-iff (none-unless here _ (word (users i))) (none-unless here _ (word (roles i)))) (none-unless here _ (word (permissions i))))
+        or-iff (or-iff (or-iff (inside-if here _ _ (word (trusted i)) (word enrolled-issuers)) (has-if here _ i (word (trusted i)) li))
+        (or-iff (or-iff (none-unless here _ (word (users i))) (none-unless here _ (word (roles i)))) (none-unless here _ (word (permissions i)))))
+        (stray-zero (read ws (public-roles i)) (read ws (roles i)) (word (roles i)) (word (public-roles i)))
       where
         here : Bool
         here = bit (read ws enrolled-issuers) i
@@ -87,16 +103,23 @@ module _ (ws : List ℕ) where
     rows-zero : (from present : ℕ)
         → (rows-stray ws from i present (allowed ws i) ≡ 0)
         ↔ ((p : ℕ) → p < 16 → (k : ℕ) → k < 16 → (r : ℕ) → r < 16 → bit (getD ws (from + 16 * (16 * i + p) + k) 0) r ≡ true
-        → (bit present p ≡ true) × Stated (trusts k i) × Stated (role k r))
+        → (bit present p ≡ true) × Stated (trusts k i) × Stated (exposed i k r))
     unfolding rows-stray
-    rows-zero from present = (λ e p l k m. all .0 e k m p l, λ f. all .1 (λ k m p l. f p l k m))
+    rows-zero from present = (
+      λ e p l k m r n h. let (x, y, z) = all .0 e k m p l r n h in (x, y, sym (exposed-bit i k r) ∙ z),
+      λ f. all .1 (λ k m p l r n h. let (x, y, z) = f p l k m r n h in (x, y, exposed-bit i k r ∙ z)),
+    )
       where
+        exposed-below : (k : ℕ) (b : Bool) → cond b (read ws (roles k)) (read ws (public-roles k)) < 65536
+        exposed-below k true = wide (address (roles k))
+        exposed-below k false = wide (address (public-roles k))
+
         all : (rows-stray ws from i present (allowed ws i) ≡ 0)
             ↔ ((k : ℕ) → k < 16 → (p : ℕ) → p < 16 → (r : ℕ) → r < 16 → bit (getD ws (from + 16 * (16 * i + p) + k) 0) r ≡ true
-            → (bit present p ≡ true) × Stated (trusts k i) × Stated (role k r))
+            → (bit present p ≡ true) × Stated (trusts k i) × (bit (exposed-roles ws i k) r ≡ true))
         all =
             gather-iff _ (λ k _. gather-iff _ (λ p _.
-            inside-if-both (bit present p) (bit (read ws (trusted k)) i) _ _ (wide (from + 16 * (16 * i + p) + k)) (wide (address (roles k)))))
+            inside-if-both (bit present p) (bit (read ws (trusted k)) i) _ _ (wide (from + 16 * (16 * i + p) + k)) (exposed-below k (eqb i k))))
 
     session-zero : (s : ℕ) → (session-stray ws i s ≡ 0) ↔ Session i s
     session-zero s = (λ e. split e (below-or-not w 16), join)
@@ -130,13 +153,14 @@ module _ (ws : List ℕ) where
     unfolding issuer-stray sessions-stray
     issuer-zero = (
       λ e.
-          let ((((((t, o), ((u, r), p)), h), g), a), s) = all .0 e in
+          let (((((((t, o), ((u, r), p)), x), h), g), a), s) = all .0 e in
           record {
             trust = t;
             itself = o;
             users-of = u;
             roles-of = r;
             permissions-of = p;
+            public-of = x;
             held-by = h;
             grants = g;
             attachments-of = a;
@@ -144,11 +168,11 @@ module _ (ws : List ℕ) where
           },
       λ c.
           all .1
-          ((((((c .trust, c .itself), ((c .users-of, c .roles-of), c .permissions-of)), c .held-by), c .grants), c .attachments-of), c .sessions),
+          (((((((c .trust, c .itself), ((c .users-of, c .roles-of), c .permissions-of)), c .public-of), c .held-by), c .grants), c .attachments-of), c .sessions),
     )
       where
         all : (issuer-stray ws i ≡ 0)
-            ↔ ((((((Trust i × Itself i) × ((Owned i (user i) × Owned i (role i)) × Owned i (permission i))) × Held i)
+            ↔ (((((((Trust i × Itself i) × ((Owned i (user i) × Owned i (role i)) × Owned i (permission i))) × Public i) × Held i)
             × Ends i (permission i) (granted i)) × Ends i (role i) (attached i)) × ((s : ℕ) → s < 16 → Session i s))
         all =
             or-iff (or-iff (or-iff (or-iff own-zero held-zero) (rows-zero holders-at (read ws (permissions i))))

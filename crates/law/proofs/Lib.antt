@@ -1,5 +1,6 @@
 pub mod Inside
 pub mod Rows
+pub mod Allowed
 pub mod Sessions
 pub mod Conditions
 pub mod Support

@@ -12,11 +12,12 @@ use Rattle.bits.specs.Bit.{bit}
 use Rattle.bits.specs.Gather.{gather}
 use Rattle.bits.proofs.Booleans.{and-both, and-intro}
 use Rattle.bits.proofs.Gather.{gather-zero}
-use Rattle.mtas.specs.Fact.{Fact, enrolled, trusts, user, role, permission, holds, granted, attached, opened, active, numbers, Below16}
-use Rattle.mtas.specs.Needs.{enrolment, needs}
+use Rattle.mtas.specs.Fact.{Fact, enrolled, trusts, user, role, permission, public, holds, granted, attached, opened, active, numbers, Below16}
+use Rattle.mtas.specs.Needs.{enrolment, exposed, needs}
 use Rattle.mtas.specs.Law.{In, here, there}
 use Rattle.mtas.specs.Layout.{Word, session-user, active-roles, Cell, sixteen, its-user, in-session, cell, word-at, read, view}
 use Rattle.mtas.specs.LawTest.{Fits}
+use Rattle.mtas.proofs.Exposed.{exposed-has}
 use Rattle.mtas.proofs.Facts.{All, all-in}
 use Rattle.mtas.proofs.Address.{word-numbers, address-word-at, word-at-numbered}
 use Rattle.mtas.proofs.Cells.{Placed, placed}
@@ -56,12 +57,20 @@ module _ (ws : List ℕ) where
         let x = stood (user i u) (omega arith) a in
         (x, (stood (role i r) (omega arith) b, user-needs i u x))
 
+    -- an exposed role is there
+    exposed-needs : (j i r : ℕ) → i < 16 → r < 16 → Stated ws (exposed j i r) → Stands (role i r) × Stands (exposed j i r)
+    exposed-needs j i r li lr =
+        exposed-has (λ f. Stated ws f → Stands (role i r) × Stands f) j i r
+        (λ _ y. let x = stood (role i r) (omega arith) y in (x, x))
+        (λ _ y. (stood (role i r) (omega arith) (of i li .public-of r lr y), stood (public i r) (omega arith) y))
+
     -- what a grant and an attachment need
-    link-needs : (f : Fact) (j i r : ℕ) → j < 16 → i < 16 → r < 16 → Below16 (numbers f) → Stated ws f × Stated ws (trusts i j) × Stated ws (role i r)
-        → All Stands (f ∷ role i r ∷ trusts i j ∷ needs (trusts i j))
+    link-needs : (f : Fact) (j i r : ℕ) → j < 16 → i < 16 → r < 16 → Below16 (numbers f) → Stated ws f × Stated ws (trusts i j) × Stated ws (exposed j i r)
+        → All Stands (f ∷ role i r ∷ exposed j i r ∷ trusts i j ∷ needs (trusts i j))
     link-needs f j i r lj li lr b (x, t, y) =
         let z = stood (trusts i j) (omega arith) t in
-        (stood f b x, (stood (role i r) (omega arith) y, (z, trusts-need i j z)))
+        let (o, e) = exposed-needs j i r li lr y in
+        (stood f b x, (o, (e, (z, trusts-need i j z))))
 
     opened-needs : (i s u : ℕ) → i < 16 → s < 16 → u < 16 → read ws (session-user i s) ≡ u
         → Stated ws (user i u) × ((r : ℕ) → r < 16 → bit (read ws (active-roles i s)) r ≡ true → Stated ws (holds i u r))
@@ -75,6 +84,10 @@ module _ (ws : List ℕ) where
     needs-stand (permission i p) h =
         let (li, (lp, _)) = view-numbered ws (permission i p) h in
         enrolment-stands i li (of i li .permissions-of p lp (stated (permission i p) h))
+    needs-stand (public i r) h =
+        let (li, (lr, _)) = view-numbered ws (public i r) h in
+        let x = of i li .public-of r lr (stated (public i r) h) in
+        (stood (role i r) (omega arith) x, enrolment-stands i li (of i li .roles-of r lr x))
     needs-stand (holds i u r) h = holds-need i u r h
     needs-stand (granted j p i r) h =
         let (lj, (lp, (li, (lr, _)))) = view-numbered ws (granted j p i r) h in
@@ -118,16 +131,17 @@ module _ (ws : List ℕ) where
       users-of = λ u lu h. need (user i u) (enrolled i) (omega arith) h here;
       roles-of = λ r lr h. need (role i r) (enrolled i) (omega arith) h here;
       permissions-of = λ p lp h. need (permission i p) (enrolled i) (omega arith) h here;
+      public-of = λ r lr h. need (public i r) (role i r) (omega arith) h here;
       held-by = λ u lu r lr h. (need (holds i u r) (user i u) (omega arith) h here, need (holds i u r) (role i r) (omega arith) h (there here));
       grants = λ p lp k lk r lr h. (
         need (granted i p k r) (permission i p) (omega arith) h here,
-        need (granted i p k r) (trusts k i) (omega arith) h (there (there here)),
-        need (granted i p k r) (role k r) (omega arith) h (there here),
+        need (granted i p k r) (trusts k i) (omega arith) h (there (there (there here))),
+        need (granted i p k r) (exposed i k r) (omega arith) h (there (there here)),
       );
       attachments-of = λ q lq k lk r lr h. (
         need (attached i q k r) (role i q) (omega arith) h here,
-        need (attached i q k r) (trusts k i) (omega arith) h (there (there here)),
-        need (attached i q k r) (role k r) (omega arith) h (there here),
+        need (attached i q k r) (trusts k i) (omega arith) h (there (there (there here))),
+        need (attached i q k r) (exposed i k r) (omega arith) h (there (there here)),
       );
       sessions = λ s ls. (
         word-fits ws sound (session-user i s) (omega arith),

@@ -8,7 +8,7 @@ use lib.Dec.{eqb, ltb}
 use lib.ListN.{getD}
 use Rattle.bits.specs.Bit.{bit, with-bit}
 use Rattle.bits.specs.Gather.{gather}
-use Rattle.mtas.specs.Layout.{enrolled-issuers, trusted, users, roles, permissions, held, session-user, active-roles, holders-at, seniors-at, read}
+use Rattle.mtas.specs.Layout.{enrolled-issuers, trusted, users, roles, permissions, held, session-user, active-roles, public-roles, holders-at, seniors-at, read}
 
 -- w where the test holds, else no bit
 abbrev pub only-if : Bool → ℕ → ℕ
@@ -30,16 +30,26 @@ present-stray ws i here =
     bitOr (bitOr (outside (read ws (users i)) (only-if here 65535)) (outside (read ws (roles i)) (only-if here 65535)))
     (outside (read ws (permissions i)) (only-if here 65535))
 
+-- 'a lawful one has only present roles there'
+unfoldable pub public-stray : List ℕ → ℕ → ℕ
+public-stray ws i = outside (read ws (public-roles i)) (read ws (roles i))
+
 unfoldable pub own-stray : List ℕ → ℕ → ℕ
-own-stray ws i = bitOr (trust-stray ws i (bit (read ws enrolled-issuers) i)) (present-stray ws i (bit (read ws enrolled-issuers) i))
+own-stray ws i =
+    bitOr (bitOr (trust-stray ws i (bit (read ws enrolled-issuers) i)) (present-stray ws i (bit (read ws enrolled-issuers) i)))
+    (public-stray ws i)
 
 -- 'held bits only between a present user and a present role'
 unfoldable pub held-stray : List ℕ → ℕ → ℕ
 held-stray ws i = gather 16 (λ u. outside (read ws (held i u)) (only-if (bit (read ws (users i)) u) (read ws (roles i))))
 
--- the roles of i that may hold j's permissions and be seniors of j's roles: those present, where i trusts j
+-- the roles of i that are exposed to j: to i itself all that are present, to others the public ones
+abbrev pub exposed-roles : List ℕ → ℕ → ℕ → ℕ
+exposed-roles ws j i = cond (eqb j i) (read ws (roles i)) (read ws (public-roles i))
+
+-- the roles of i that may hold j's permissions and be seniors of j's roles: those exposed to j, where i trusts j
 abbrev pub allowed : List ℕ → ℕ → ℕ → ℕ
-allowed ws j i = only-if (bit (read ws (trusted i)) j) (read ws (roles i))
+allowed ws j i = only-if (bit (read ws (trusted i)) j) (exposed-roles ws j i)
 
 -- a set of the roles allowed to j
 pub record Trusting (ws : List ℕ) (j : ℕ) (words : List ℕ) : Type 0 where

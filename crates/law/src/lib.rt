@@ -25,7 +25,7 @@ fn outside(w: u16, allowed: u16) -> u16
     w & !allowed
 }
 
-// Trust only among enrolled issuers, i's in itself where i is enrolled, and users, roles and permissions only there.
+// Trust only among enrolled issuers, i's in itself where i is enrolled, users, roles and permissions only there, and only present roles public.
 fn stray_own(state: &[u16], i: usize) -> u16
     requires { ⌜ (length (now state) ≡ state-length) × (i < 16) ⌝ }
     ensures { λ r. ⌜ r ≡ own-stray (now (state .entry)) i ⌝ }
@@ -36,11 +36,13 @@ fn stray_own(state: &[u16], i: usize) -> u16
     let here = bits::has_bit(enrolled, n);
     let itself = bits::with_bit(0, n);
     let all = only_if(here, 65535);
+    let roles = state[layout::ROLES_AT + i];
     let trust = outside(trusted, only_if(here, enrolled)) | outside(only_if(here, itself), trusted);
     let present = outside(state[layout::USERS_AT + i], all)
-        | outside(state[layout::ROLES_AT + i], all)
+        | outside(roles, all)
         | outside(state[layout::PERMISSIONS_AT + i], all);
-    trust | present
+    let public = outside(state[layout::PUBLIC_AT + i], roles);
+    trust | present | public
 }
 
 // Held bits only between a present user and a present role of i.
@@ -58,7 +60,7 @@ fn stray_held(state: &[u16], i: usize) -> u16
     found
 }
 
-// The roles that may hold j's permissions and be seniors of j's roles: those present of the issuers that trust j.
+// The roles that may hold j's permissions and be seniors of j's roles: of the issuers that trust j those public, and of j itself those present.
 fn trusting(state: &[u16], j: usize) -> bits::RoleSet
     requires { ⌜ (length (now state) ≡ state-length) × (j < 16) ⌝ }
     ensures { λ s. ⌜ Trusting (now (state .entry)) j (s .words) ⌝ }
@@ -68,9 +70,13 @@ fn trusting(state: &[u16], j: usize) -> bits::RoleSet
     for i in 0..16 {
         words[i] = only_if(
             bits::has_bit(state[layout::TRUSTED_AT + i], n),
-            state[layout::ROLES_AT + i],
+            state[layout::PUBLIC_AT + i],
         );
     }
+    words[j] = only_if(
+        bits::has_bit(state[layout::TRUSTED_AT + j], n),
+        state[layout::ROLES_AT + j],
+    );
     bits::RoleSet { words }
 }
 

@@ -1,6 +1,6 @@
 // Where the words of a state stand (document 01, 'The state'): the regions' beginnings and lengths, and the place of each word.
 ghost use mathlib.Core.Path.{_≡_};
-ghost use Rattle.mtas.specs.Layout.{address, trusted, users, roles, permissions, held, holders, seniors, session-user, active-roles};
+ghost use Rattle.mtas.specs.Layout.{address, trusted, users, roles, permissions, held, holders, seniors, session-user, active-roles, public-roles};
 
 pub const TRUSTED_AT: usize = 1;
 
@@ -18,7 +18,9 @@ pub const SENIORS_AT: usize = 4417;
 
 pub const SESSIONS_AT: usize = 8513;
 
-pub const STATE_LENGTH: usize = 9025;
+pub const PUBLIC_AT: usize = 9025;
+
+pub const STATE_LENGTH: usize = 9041;
 
 // The words of grants, and as many of attachments.
 pub const LINKS: usize = 4096;
@@ -84,4 +86,11 @@ pub fn active_roles(i: u8, s: u8) -> usize
     ensures { λ r. ⌜ r ≡ address (active-roles i s) ⌝ }
 {
     session_user(i, s) + 1
+}
+
+// The public roles of i.
+pub fn public_roles(i: u8) -> usize
+    ensures { λ r. ⌜ r ≡ address (public-roles i) ⌝ }
+{
+    PUBLIC_AT + i as usize
 }

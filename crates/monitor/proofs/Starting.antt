@@ -10,27 +10,30 @@ use Rattle.bits.specs.Update.{Updated}
 use Rattle.bits.specs.Stride.{in-run}
 use Rattle.bits.proofs.Stride.{run-in}
 use Rattle.bits.proofs.Below.{length-tabulate, getD-tabulate}
-use Rattle.mtas.specs.Layout.{session-user, Cell, sixteen, its-user, in-session, cell, sessions-at, state-length, address, word-at}
+use Rattle.mtas.specs.Layout.{session-user, Cell, sixteen, its-user, in-session, cell, sessions-at, public-at, state-length, address, word-at}
 use Rattle.mtas.specs.Monitor.{Result, initial, initial-words, start}
-use Rattle.mtas.proofs.Address.{word-at-address, address-word-at}
+use Rattle.mtas.proofs.Address.{word-at-address, address-word-at, word-at-numbered}
 use Rattle.mtas.proofs.Cells.{Placed, placed}
 use Rattle.monitor.specs.declared.Answer.{Answer}
 use Rattle.monitor.specs.Contract.{Gives, two-numbers}
 
 -- a word is 65535 at starting exactly where it is a session's user, and those are two apart
 module _ (k : ℕ) (l : k < state-length) where
-  pub a-user : sessions-at ≤ k → (k - sessions-at) % 2 ≡ 0 → 65535 ≡ initial (cell (word-at k))
-  a-user a b =
+  pub a-user : sessions-at ≤ k → k < public-at → (k - sessions-at) % 2 ≡ 0 → 65535 ≡ initial (cell (word-at k))
+  a-user a c b =
       let m = (k - sessions-at) / 2 in
       let e : k ≡ address (session-user (m / 16) (m % 16)) = omega arith in
       sym (ap (λ w. initial (cell w)) (ap word-at e ∙ word-at-address (session-user (m / 16) (m % 16)) (omega arith)))
 
-  pub no-user : (sessions-at ≤ k → (k - sessions-at) % 2 ≡ 0 → ⊥) → 0 ≡ initial (cell (word-at k))
+  pub no-user : (sessions-at ≤ k → k < public-at → (k - sessions-at) % 2 ≡ 0 → ⊥) → 0 ≡ initial (cell (word-at k))
   no-user n = go (cell (word-at k)) (placed (word-at k))
     where
       go : (c : Cell) → Placed (word-at k) c → 0 ≡ initial c
       go (sixteen f) p = refl
-      go (its-user i s) p = let e : k ≡ address (session-user i s) = sym (address-word-at k l) ∙ ap address p in absurd (n (omega arith) (omega arith))
+      go (its-user i s) p =
+          let e : k ≡ address (session-user i s) = sym (address-word-at k l) ∙ ap address p in
+          let b = rw p at (word-at-numbered k l) in
+          absurd (n (omega arith) (omega arith) (omega arith))
       go (in-session i s f) p = refl
 
 -- r is the answer of two numbers

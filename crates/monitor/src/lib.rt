@@ -30,6 +30,9 @@ fn initial(k: usize) -> u16
     if k < layout::SESSIONS_AT {
         return 0;
     }
+    if layout::PUBLIC_AT <= k {
+        return 0;
+    }
     if (k - layout::SESSIONS_AT) % 2 == 0 {
         return layout::NOBODY;
     }

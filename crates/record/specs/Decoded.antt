@@ -8,7 +8,7 @@ use lib.ListN.{length, getD}
 use Rattle.mtas.specs.Call as model
 use Rattle.mtas.specs.Record.{Request, request, undecodable, bytes-refusal, kind-at, fill, decode}
 use Rattle.record.specs.declared.Call.{Call}
-use Rattle.record.specs.declared.Call.the-variants.{AddIssuer, RemoveIssuer, AssignTrust, RevokeTrust, AddUser, RemoveUser, AddRole, RemoveRole, AddPerm, RemovePerm, AssignUser, RevokeUser, AssignPerm, RevokePerm, AssignRH, RevokeRH, CreateSession, DeleteSession, AddActiveRole, DropActiveRole, CheckAccess}
+use Rattle.record.specs.declared.Call.the-variants.{AddIssuer, RemoveIssuer, AssignTrust, RevokeTrust, AddUser, RemoveUser, AddRole, RemoveRole, AddPerm, RemovePerm, AssignUser, RevokeUser, AssignPerm, RevokePerm, AssignRH, RevokeRH, CreateSession, DeleteSession, AddActiveRole, DropActiveRole, CheckAccess, PublishRole, UnpublishRole}
 use Rattle.record.specs.declared.Decoded.{Decoded}
 use Rattle.record.specs.declared.Decoded.the-variants.{Request as Requested, Undecodable}
 use Rattle.record.specs.declared.Kind.{Kind}
@@ -37,6 +37,8 @@ call-of (DeleteSession s) = model.DeleteSession s
 call-of (AddActiveRole s r) = model.AddActiveRole s r
 call-of (DropActiveRole s r) = model.DropActiveRole s r
 call-of (CheckAccess p i s) = model.CheckAccess p i s
+call-of (PublishRole r) = model.PublishRole r
+call-of (UnpublishRole r) = model.UnpublishRole r
 
 -- a decoded record as the model has it
 abbrev pub request-of : Decoded → Request

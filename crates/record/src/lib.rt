@@ -1,4 +1,4 @@
-// The call record: its bytes decoded into a caller and one of twenty-one calls, and a call's arguments.
+// The call record: its bytes decoded into a caller and one of twenty-three calls, and a call's arguments.
 ghost use mathlib.Core.Path.{_≡_};
 ghost use lib.ListN.{getD};
 ghost use Rattle.mtas.specs.Record.{kind-at, fill};
@@ -31,6 +31,8 @@ pub enum Call {
     AddActiveRole(u8, u8),
     DropActiveRole(u8, u8),
     CheckAccess(u8, u8, u8),
+    PublishRole(u8),
+    UnpublishRole(u8),
 }
 
 // A caller and its call, or a record of refusal 3's row.
@@ -71,6 +73,8 @@ fn kind_at(kind: u16, x: u8, y: u8, z: u8) -> Kind
         19 => Kind::Known(2, Call::AddActiveRole(x, y)),
         20 => Kind::Known(2, Call::DropActiveRole(x, y)),
         21 => Kind::Known(3, Call::CheckAccess(x, y, z)),
+        22 => Kind::Known(1, Call::PublishRole(x)),
+        23 => Kind::Known(1, Call::UnpublishRole(x)),
         _ => Kind::Unknown,
     }
 }
@@ -148,5 +152,7 @@ pub fn arguments(call: Call) -> Slots
         Call::AddActiveRole(x, y) => Slots { x, y, z: 0 },
         Call::DropActiveRole(x, y) => Slots { x, y, z: 0 },
         Call::CheckAccess(x, y, z) => Slots { x, y, z },
+        Call::PublishRole(x) => Slots { x, y: 0, z: 0 },
+        Call::UnpublishRole(x) => Slots { x, y: 0, z: 0 },
     }
 }

@@ -4,7 +4,8 @@ use mathlib.Core.List.{List, [], _∷_}
 use mathlib.Core.Option.{Option, none, some}
 use mathlib.Core.Bool.{Bool}
 use Prim.Native.Nat.{ℕ}
-use Rattle.mtas.specs.Needs.{enrolment}
+use Rattle.mtas.specs.Fact.{role}
+use Rattle.mtas.specs.Needs.{enrolment, exposed}
 use Rattle.mtas.specs.State.{State, user-of}
 use Rattle.mtas.specs.Hierarchy.{_#_}
 use Rattle.mtas.specs.Call.{Call}
@@ -44,6 +45,10 @@ abbrev pub whose-of : Whose → model.Whose
 whose-of Operator = model.operator's
 whose-of Issuer = model.issuer's
 
+-- the fact exposes i#r to c
+pub record Exposing (c i r : ℕ) (f : Fact) : Type 0 where
+  pub is : fact-of f ≡ exposed c i r
+
 -- the list says the causes of the row of the call k from c
 pub record IsRow (st : State) (c : ℕ) (k : Call) (l : List Guard) : Type 0 where
   pub is : guards-of l ≡ model.rule (user-of st c) c k .causes
@@ -51,6 +56,10 @@ pub record IsRow (st : State) (c : ℕ) (k : Call) (l : List Guard) : Type 0 whe
 -- the list says what kinds 13 to 16 try, with the guards m last
 pub record IsLink (c i r : ℕ) (own : Fact) (m l : List Guard) : Type 0 where
   pub is : guards-of l ≡ model.link-causes c i r (fact-of own) (guards-of m)
+
+-- the list says what kinds 22 and 23 try, with the guards m last
+pub record IsOwnRole (c r : ℕ) (m l : List Guard) : Type 0 where
+  pub is : guards-of l ≡ model.absent 10 (role c r) ∷ guards-of m
 
 -- whose call it is, which doesn't go by the users of sessions
 pub record IsWhose (k : Call) (w : Whose) : Type 0 where

@@ -3,7 +3,7 @@ ghost use mathlib.Core.List.{[], _∷_};
 ghost use Rattle.mtas.specs.Layout.{view};
 ghost use Rattle.mtas.specs.LawTest.{LawfulWords};
 ghost use Rattle.record.specs.Decoded.{call-of};
-ghost use Rattle.rule.specs.Table.{IsRow, IsLink, IsWhose, MayCall, IsEffect};
+ghost use Rattle.rule.specs.Table.{Exposing, IsRow, IsLink, IsOwnRole, IsWhose, MayCall, IsEffect};
 use Guard::Absent;
 use Guard::Passed;
 use Guard::Present;
@@ -30,8 +30,18 @@ pub enum Effect {
     Decides(u8, u8, u8),
 }
 
+// What exposes i#r to c: of c's own roles that it is there, of another's that it is public.
+fn exposing(c: u8, i: u8, r: u8) -> Fact
+    ensures { λ f. ⌜ Exposing c i r f ⌝ }
+{
+    if c == i {
+        return Fact::Role(i, r);
+    }
+    Fact::Public(i, r)
+}
+
 // What kinds 13 to 16 from c try, which link a thing of the caller's own to i#r; the last two are the row's.
-fn link(c: u8, i: u8, r: u8, own: Fact, x: Guard, y: Guard) -> [Guard; 6]
+fn link(c: u8, i: u8, r: u8, own: Fact, x: Guard, y: Guard) -> [Guard; 7]
     ensures { λ l. ⌜ IsLink c i r own (x ∷ y ∷ []) l ⌝ }
 {
     [
@@ -39,24 +49,41 @@ fn link(c: u8, i: u8, r: u8, own: Fact, x: Guard, y: Guard) -> [Guard; 6]
         Absent(9, Fact::Trusts(i, c)),
         Absent(10, own),
         Absent(10, Fact::Role(i, r)),
+        Absent(14, exposing(c, i, r)),
         x,
         y,
     ]
 }
 
+// What kinds 22 and 23 from c try of its own role; the last is the row's.
+fn own_role(c: u8, role: u8, x: Guard) -> [Guard; 7]
+    ensures { λ l. ⌜ IsOwnRole c role (x ∷ []) l ⌝ }
+{
+    [
+        Absent(10, Fact::Role(c, role)),
+        x,
+        Passed,
+        Passed,
+        Passed,
+        Passed,
+        Passed,
+    ]
+}
+
 // The causes of a call's own row.
-pub fn guards(state: &[u16], c: u8, call: Call) -> [Guard; 6]
+pub fn guards(state: &[u16], c: u8, call: Call) -> [Guard; 7]
     requires { ⌜ LawfulWords (now state) ⌝ }
     ensures { λ l. ⌜ IsRow (view (now (state .entry))) c (call-of call) l ⌝ }
 {
     let no = Passed;
     match call {
-        Call::AddIssuer(i) => [Present(7, Fact::Enrolled(i)), no, no, no, no, no],
-        Call::RemoveIssuer(i) => [Absent(7, Fact::Enrolled(i)), no, no, no, no, no],
+        Call::AddIssuer(i) => [Present(7, Fact::Enrolled(i)), no, no, no, no, no, no],
+        Call::RemoveIssuer(i) => [Absent(7, Fact::Enrolled(i)), no, no, no, no, no, no],
         Call::AssignTrust(j) => [
             Absent(7, Fact::Enrolled(j)),
             Wrong(8, c == j),
             Present(12, Fact::Trusts(c, j)),
+            no,
             no,
             no,
             no,
@@ -68,17 +95,19 @@ pub fn guards(state: &[u16], c: u8, call: Call) -> [Guard; 6]
             no,
             no,
             no,
+            no,
         ],
-        Call::AddUser(u) => [Present(12, Fact::User(c, u)), no, no, no, no, no],
-        Call::RemoveUser(u) => [Absent(10, Fact::User(c, u)), no, no, no, no, no],
-        Call::AddRole(r) => [Present(12, Fact::Role(c, r)), no, no, no, no, no],
-        Call::RemoveRole(r) => [Absent(10, Fact::Role(c, r)), no, no, no, no, no],
-        Call::AddPerm(p) => [Present(12, Fact::Permission(c, p)), no, no, no, no, no],
-        Call::RemovePerm(p) => [Absent(10, Fact::Permission(c, p)), no, no, no, no, no],
+        Call::AddUser(u) => [Present(12, Fact::User(c, u)), no, no, no, no, no, no],
+        Call::RemoveUser(u) => [Absent(10, Fact::User(c, u)), no, no, no, no, no, no],
+        Call::AddRole(r) => [Present(12, Fact::Role(c, r)), no, no, no, no, no, no],
+        Call::RemoveRole(r) => [Absent(10, Fact::Role(c, r)), no, no, no, no, no, no],
+        Call::AddPerm(p) => [Present(12, Fact::Permission(c, p)), no, no, no, no, no, no],
+        Call::RemovePerm(p) => [Absent(10, Fact::Permission(c, p)), no, no, no, no, no, no],
         Call::AssignUser(u, r) => [
             Absent(10, Fact::User(c, u)),
             Absent(10, Fact::Role(c, r)),
             Present(12, Fact::Holds(c, u as u16, r)),
+            no,
             no,
             no,
             no,
@@ -87,6 +116,7 @@ pub fn guards(state: &[u16], c: u8, call: Call) -> [Guard; 6]
             Absent(10, Fact::User(c, u)),
             Absent(10, Fact::Role(c, r)),
             Absent(12, Fact::Holds(c, u as u16, r)),
+            no,
             no,
             no,
             no,
@@ -115,9 +145,11 @@ pub fn guards(state: &[u16], c: u8, call: Call) -> [Guard; 6]
             no,
             no,
             no,
+            no,
         ],
         Call::DeleteSession(s) => [
             Absent(10, Fact::Opened(c, s, user_of(state, c, s))),
+            no,
             no,
             no,
             no,
@@ -133,6 +165,7 @@ pub fn guards(state: &[u16], c: u8, call: Call) -> [Guard; 6]
                 Present(12, Fact::Active(c, s, user, r)),
                 no,
                 no,
+                no,
             ]
         }
         Call::DropActiveRole(s, r) => {
@@ -144,9 +177,12 @@ pub fn guards(state: &[u16], c: u8, call: Call) -> [Guard; 6]
                 no,
                 no,
                 no,
+                no,
             ]
         }
-        Call::CheckAccess(p, _, _) => [Absent(10, Fact::Permission(c, p)), no, no, no, no, no],
+        Call::CheckAccess(p, _, _) => [Absent(10, Fact::Permission(c, p)), no, no, no, no, no, no],
+        Call::PublishRole(r) => own_role(c, r, Present(12, Fact::Public(c, r))),
+        Call::UnpublishRole(r) => own_role(c, r, Absent(12, Fact::Public(c, r))),
     }
 }
 
@@ -182,6 +218,8 @@ pub fn its_caller(call: Call) -> Whose
         Call::AddActiveRole(_, _) => Whose::Issuer,
         Call::DropActiveRole(_, _) => Whose::Issuer,
         Call::CheckAccess(_, _, _) => Whose::Issuer,
+        Call::PublishRole(_) => Whose::Issuer,
+        Call::UnpublishRole(_) => Whose::Issuer,
     }
 }
 
@@ -222,5 +260,7 @@ pub fn effect_on(state: &[u16], c: u8, call: Call) -> Effect
         Call::AddActiveRole(s, r) => Effect::Puts(Fact::Active(c, s, user_of(state, c, s), r)),
         Call::DropActiveRole(s, r) => Effect::Cuts(Fact::Active(c, s, user_of(state, c, s), r)),
         Call::CheckAccess(p, i, s) => Effect::Decides(p, i, s),
+        Call::PublishRole(r) => Effect::Puts(Fact::Public(c, r)),
+        Call::UnpublishRole(r) => Effect::Cuts(Fact::Public(c, r)),
     }
 }

@@ -8,10 +8,10 @@ use Rattle.answers.proofs.first_cause.Statement.{statement}
 use Rattle.answers.proofs.first_cause.Tie as tie
 
 abbrev Inv-loop : tie.InvT-loop
-Inv-loop state guards k₀ k = (k ≤ 6) × Passing (view state) guards k
+Inv-loop state guards k₀ k = (k ≤ 7) × Passing (view state) guards k
 
 abbrev μ-loop : tie.MeasureT-loop
-μ-loop state guards k₀ k = 6 - k
+μ-loop state guards k₀ k = 7 - k
 
 pub first-cause-spec : {M : Type 1} → statement M
 first-cause-spec =
@@ -21,4 +21,4 @@ first-cause-spec =
     (λ c. stops _ (c .before .before .before .before .before .loop .inv .1) (search needs) (c .before .before .applies .ensures) (c .before .if1 .taken) (c .cause .ensures))
     (λ c. search needs) (λ c. search needs)
     (λ c. (omega arith, goes-on _ (c .before .before .before .before .loop .inv .1) (search needs) (c .before .applies .ensures) (c .if1 .left)))
-    (λ c. all-pass {n = 6} (c .before .loop .inv .1) (search needs) (omega arith)))
+    (λ c. all-pass {n = 7} (c .before .loop .inv .1) (search needs) (omega arith)))

@@ -18,6 +18,7 @@ arguments-spec =
     (λ c. search needs) (λ c. search needs) (λ c. search needs) (λ c. search needs) (λ c. search needs) (λ c. search needs) (λ c. search needs)
     (λ c. search needs) (λ c. search needs) (λ c. search needs) (λ c. search needs) (λ c. search needs) (λ c. search needs) (λ c. search needs)
     (λ c. search needs) (λ c. search needs) (λ c. search needs) (λ c. search needs) (λ c. search needs) (λ c. search needs) (λ c. search needs)
+    (λ c. search needs) (λ c. search needs) (λ c. search called) (λ c. search called) (λ c. search called) (λ c. search called) (λ c. search called)
     (λ c. search called) (λ c. search called) (λ c. search called) (λ c. search called) (λ c. search called) (λ c. search called) (λ c. search called)
     (λ c. search called) (λ c. search called) (λ c. search called) (λ c. search called) (λ c. search called) (λ c. search called) (λ c. search called)
-    (λ c. search called) (λ c. search called) (λ c. search called) (λ c. search called) (λ c. search called) (λ c. search called) (λ c. search called))
+    (λ c. search called) (λ c. search called) (λ c. search called) (λ c. search called))

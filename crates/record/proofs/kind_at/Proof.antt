@@ -28,4 +28,6 @@ kind-at-spec =
     (λ c. record { fills = λ d l p q s. rw (c .match .keys19) (cc) })
     (λ c. record { fills = λ d l p q s. rw (c .match .keys20) (cc) })
     (λ c. record { fills = λ d l p q s. rw (c .match .keys21) (cc) })
+    (λ c. record { fills = λ d l p q s. rw (c .match .keys22) (cc) })
+    (λ c. record { fills = λ d l p q s. rw (c .match .keys23) (cc) })
     (λ c. other (c .match .rest)))

@@ -10,5 +10,9 @@ pub role-strip-spec : {M : Type 1} → statement M
 role-strip-spec =
     tie.close
     (tie.spec
-    (λ c κs. search needs) (λ c κs. search needs) (λ c κs. search needs) (λ c κs. search needs) (λ c κs. search needs) (λ c κs. search needs) (λ c κs. search needs) (λ c κs. search needs) (λ c κs. search needs) (λ c. search (needs, word-row)) (λ c. search (needs, run-row))
-    (λ c. search (needs, column-row)) (λ c. search (needs, column-row)) (λ c. run-row {n = 4} (omega arith) refl (c .seniors2 .ensures) refl))
+    (λ c κs. search needs) (λ c κs. search needs) (λ c κs. search needs) (λ c κs. search needs) (λ c κs. search needs) (λ c κs. search needs) (λ c κs. search needs)
+    (λ c κs. search needs) (λ c κs. search needs) (λ c κs. search needs) (λ c κs. search needs)
+    (λ c. search (needs, word-row)) (λ c. search (needs, run-row))
+    (λ c. column-row (c .before .before .match .keys3) refl (c .before .holders .ensures) refl (c .all-but3 .ensures))
+    (λ c. column-row (c .before .before .match .keys4) refl (c .before .seniors .ensures) refl (c .all-but4 .ensures))
+    (λ c. run-row (c .before .match .keys5) refl (c .seniors2 .ensures) refl) (λ c. word-row {n = 5} (omega arith) refl (c .before .public-roles .ensures) (c .all-but5 .ensures)))

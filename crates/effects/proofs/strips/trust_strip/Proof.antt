@@ -10,4 +10,4 @@ pub trust-strip-spec : {M : Type 1} → statement M
 trust-strip-spec =
     tie.close
     (tie.spec
-    (λ c κs. search needs) (λ c κs. search needs) (λ c κs. search needs) (λ c κs. search needs) (λ c. search (needs, word-row)) (λ c. column-row (c .before .match .keys2) refl (c .holders .ensures) refl) (λ c. column-row {n = 2} (omega arith) refl (c .seniors .ensures) refl))
+    (λ c κs. search needs) (λ c κs. search needs) (λ c κs. search needs) (λ c κs. search needs) (λ c. search (needs, word-row)) (λ c. column-row (c .before .match .keys2) refl (c .holders .ensures) refl refl) (λ c. column-row {n = 2} (omega arith) refl (c .seniors .ensures) refl refl))
