@@ -88,6 +88,10 @@ pub fn carry_out(sets: &mut Sets, decoded: &Decoded) {
             }
         }
         Call::MayUse { .. } => {}
+        Call::PublishRole { role } => {
+            sets.public.insert(own(caller, role));
+        }
+        Call::UnpublishRole { role } => unpublish(sets, own(caller, role)),
     }
 }
 
@@ -108,6 +112,7 @@ fn strike(sets: &mut Sets, issuer: usize) {
         .retain(|trust| trust.trustor != issuer && trust.trustee != issuer);
     sets.users.retain(|user| user.issuer != issuer);
     sets.roles.retain(|role| role.issuer != issuer);
+    sets.public.retain(|role| role.issuer != issuer);
     sets.permissions
         .retain(|permission| permission.issuer != issuer);
     sets.held.retain(|held| held.user.issuer != issuer);
@@ -139,9 +144,10 @@ fn remove_user(sets: &mut Sets, user: User) {
 }
 
 /// "Removing a role clears it from held words, sessions, grants and attachments on either
-/// side."
+/// side." Its public bit is "cleared with the thing" that it names.
 fn remove_role(sets: &mut Sets, role: Role) {
     sets.roles.remove(&role);
+    sets.public.remove(&role);
     sets.held
         .retain(|held| own(held.user.issuer, held.role) != role);
     for (name, session) in &mut sets.sessions {
@@ -168,4 +174,13 @@ fn take_role(sets: &mut Sets, user: User, role: usize) {
             session.active.remove(&role);
         }
     }
+}
+
+/// "Unpublishing clears those that used it": the grants and attachments of other estates.
+fn unpublish(sets: &mut Sets, role: Role) {
+    sets.public.remove(&role);
+    sets.grants
+        .retain(|grant| grant.role != role || grant.permission.issuer == role.issuer);
+    sets.attachments
+        .retain(|attachment| attachment.senior != role || attachment.junior.issuer == role.issuer);
 }

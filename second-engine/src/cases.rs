@@ -1,6 +1,9 @@
-//! "Twelve press-house cases" as records, with the answers that the paper gives.
+//! "Twelve press-house cases" and cases of public roles, as records with the paper's answers.
 
 use crate::record::{encode, OPERATOR};
+
+/// The kind, the caller and the arguments of a record.
+type Row = (usize, usize, &'static [usize]);
 
 /// The refusal and the verdict.
 pub type Expected = (u16, u16);
@@ -14,38 +17,129 @@ pub struct Case {
 
 /// Builds S: "issuers 0 and 1 are enrolled, 0 trusts 1, 0@3 holds 0#2, 0#3 is present and
 /// unheld, 0/4 is open for 0@3 with role 2 active, and 1%5 is granted to 0#2; nothing else".
-pub fn state_s() -> Vec<Vec<u8>> {
-    vec![
-        encode(1, OPERATOR, &[0]),
-        encode(1, OPERATOR, &[1]),
-        encode(3, 0, &[1]),
-        encode(5, 0, &[3]),
-        encode(7, 0, &[2]),
-        encode(7, 0, &[3]),
-        encode(11, 0, &[3, 2]),
-        encode(17, 0, &[4, 3]),
-        encode(19, 0, &[4, 2]),
-        encode(9, 1, &[5]),
-        encode(13, 1, &[5, 0, 2]),
-    ]
-}
+/// "In S 0#2 is public."
+const S: [Row; 12] = [
+    (1, OPERATOR, &[0]),
+    (1, OPERATOR, &[1]),
+    (3, 0, &[1]),
+    (5, 0, &[3]),
+    (7, 0, &[2]),
+    (7, 0, &[3]),
+    (22, 0, &[2]),
+    (11, 0, &[3, 2]),
+    (17, 0, &[4, 3]),
+    (19, 0, &[4, 2]),
+    (9, 1, &[5]),
+    (13, 1, &[5, 0, 2]),
+];
 
 #[rustfmt::skip]
+const A_TO_L: [(&str, &[Row], Expected); 12] = [
+    ("A", &[(21, 1, &[5, 0, 4])], (0, 1)),
+    ("B", &[(4, 0, &[1]), (21, 1, &[5, 0, 4])], (0, 0)),
+    ("C", &[(20, 0, &[4, 2]), (21, 1, &[5, 0, 4])], (0, 0)),
+    ("D", &[(21, 1, &[6, 0, 4])], (10, 0)),
+    ("E", &[(21, 1, &[5, 0, 5])], (0, 0)),
+    ("F", &[(13, 1, &[5, 0, 7])], (10, 0)),
+    ("G", &[(13, 0, &[0, 1, 0])], (9, 0)),
+    ("H", &[(15, 0, &[2, 0, 2])], (13, 0)),
+    ("I", &[(3, 0, &[0])], (8, 0)),
+    ("J", &[(3, 0, &[16])], (6, 0)),
+    ("K", &[(1, OPERATOR, &[0])], (7, 0)),
+    ("L", &[(19, 0, &[4, 3])], (11, 0)),
+];
+
+/// "Some roles stay indoors": 0#2 is public in S and 0#3 is not. Where 1#1 is attached below 0#2,
+/// it holds 1%6.
+#[rustfmt::skip]
+const PUBLIC_ROLES: [(&str, &[Row], Expected); 33] = [
+    ("grant to a private role", &[(13, 1, &[5, 0, 3])], (14, 0)),
+    ("ungrant from a private role", &[(14, 1, &[5, 0, 3])], (14, 0)),
+    ("attach below a private senior", &[(7, 1, &[1]), (15, 1, &[1, 0, 3])], (14, 0)),
+    ("detach from a private senior", &[(7, 1, &[1]), (16, 1, &[1, 0, 3])], (14, 0)),
+    ("grant twice, once public", &[
+        (22, 0, &[3]), (13, 1, &[5, 0, 3]), (13, 1, &[5, 0, 3]),
+    ], (12, 0)),
+
+    ("no trust before not public", &[(4, 0, &[1]), (13, 1, &[5, 0, 3])], (9, 0)),
+    ("absent role before not public", &[(22, 0, &[3]), (8, 0, &[3]), (13, 1, &[5, 0, 3])], (10, 0)),
+    ("absent permission before not public", &[(13, 1, &[6, 0, 3])], (10, 0)),
+    ("absent junior before not public", &[(15, 1, &[1, 0, 3])], (10, 0)),
+    ("not public before a circle", &[
+        (7, 1, &[1]), (22, 1, &[1]), (3, 1, &[0]), (15, 0, &[3, 1, 1]), (15, 1, &[1, 0, 3]),
+    ], (14, 0)),
+    ("a circle once public", &[
+        (7, 1, &[1]), (22, 1, &[1]), (3, 1, &[0]), (15, 0, &[3, 1, 1]), (22, 0, &[3]),
+        (15, 1, &[1, 0, 3]),
+    ], (13, 0)),
+
+    ("own grant to a private role", &[
+        (23, 0, &[2]), (9, 0, &[1]), (13, 0, &[1, 0, 2]), (21, 0, &[1, 0, 4]),
+    ], (0, 1)),
+    ("own attachment below a private senior", &[
+        (23, 0, &[2]), (9, 0, &[1]), (13, 0, &[1, 0, 3]), (15, 0, &[3, 0, 2]), (21, 0, &[1, 0, 4]),
+    ], (0, 1)),
+    ("a private junior", &[
+        (7, 1, &[1]), (9, 1, &[6]), (13, 1, &[6, 1, 1]), (15, 1, &[1, 0, 2]), (21, 1, &[6, 0, 4]),
+    ], (0, 1)),
+
+    ("unpublishing clears a grant", &[(23, 0, &[2]), (21, 1, &[5, 0, 4])], (0, 0)),
+    ("publishing brings no grant back", &[
+        (23, 0, &[2]), (22, 0, &[2]), (21, 1, &[5, 0, 4]),
+    ], (0, 0)),
+    ("unpublishing clears an attachment", &[
+        (7, 1, &[1]), (9, 1, &[6]), (13, 1, &[6, 1, 1]), (15, 1, &[1, 0, 2]), (23, 0, &[2]),
+        (21, 1, &[6, 0, 4]),
+    ], (0, 0)),
+    ("unpublishing leaves an own grant", &[
+        (9, 0, &[1]), (13, 0, &[1, 0, 2]), (23, 0, &[2]), (21, 0, &[1, 0, 4]),
+    ], (0, 1)),
+    ("unpublishing leaves an own attachment", &[
+        (9, 0, &[1]), (13, 0, &[1, 0, 3]), (15, 0, &[3, 0, 2]), (23, 0, &[2]), (21, 0, &[1, 0, 4]),
+    ], (0, 1)),
+    ("unpublishing leaves seniors", &[
+        (7, 1, &[1]), (22, 1, &[1]), (9, 1, &[6]), (13, 1, &[6, 1, 1]), (15, 1, &[1, 0, 2]),
+        (23, 1, &[1]), (21, 1, &[6, 0, 4]),
+    ], (0, 1)),
+    ("unpublishing leaves sessions", &[
+        (23, 0, &[2]), (22, 0, &[2]), (13, 1, &[5, 0, 2]), (21, 1, &[5, 0, 4]),
+    ], (0, 1)),
+
+    ("publish an absent role", &[(22, 0, &[7])], (10, 0)),
+    ("publish twice", &[(22, 0, &[2])], (12, 0)),
+    ("unpublish an absent role", &[(23, 0, &[7])], (10, 0)),
+    ("unpublish a private role", &[(23, 0, &[3])], (12, 0)),
+    ("publish as the operator", &[(22, OPERATOR, &[2])], (4, 0)),
+    ("unpublish, not enrolled", &[(23, 2, &[16])], (5, 0)),
+    ("publish role 16", &[(22, 0, &[16])], (6, 0)),
+    ("publish with two arguments", &[(22, 0, &[2, 0])], (3, 0)),
+    ("kind 24", &[(24, 0, &[2])], (3, 0)),
+
+    ("a role removed and added", &[(8, 0, &[2]), (7, 0, &[2]), (13, 1, &[5, 0, 2])], (14, 0)),
+    ("an issuer struck and enrolled", &[
+        (2, OPERATOR, &[0]), (1, OPERATOR, &[0]), (3, 0, &[1]), (7, 0, &[2]), (13, 1, &[5, 0, 2]),
+    ], (14, 0)),
+    ("trust withdrawn and given", &[
+        (4, 0, &[1]), (3, 0, &[1]), (13, 1, &[5, 0, 2]), (21, 1, &[5, 0, 4]),
+    ], (0, 1)),
+];
+
+fn records(rows: &[Row]) -> Vec<Vec<u8>> {
+    let row = |&(kind, caller, arguments): &Row| encode(kind, caller, arguments);
+    rows.iter().map(row).collect()
+}
+
+pub fn state_s() -> Vec<Vec<u8>> {
+    records(&S)
+}
+
+/// All cases, each from S.
 pub fn cases() -> Vec<Case> {
-    let case = |name, records, expected| Case { name, records, expected };
-    let tries = encode(21, 1, &[5, 0, 4]);
-    vec![
-        case("A", vec![tries.clone()], (0, 1)),
-        case("B", vec![encode(4, 0, &[1]), tries.clone()], (0, 0)),
-        case("C", vec![encode(20, 0, &[4, 2]), tries], (0, 0)),
-        case("D", vec![encode(21, 1, &[6, 0, 4])], (10, 0)),
-        case("E", vec![encode(21, 1, &[5, 0, 5])], (0, 0)),
-        case("F", vec![encode(13, 1, &[5, 0, 7])], (10, 0)),
-        case("G", vec![encode(13, 0, &[0, 1, 0])], (9, 0)),
-        case("H", vec![encode(15, 0, &[2, 0, 2])], (13, 0)),
-        case("I", vec![encode(3, 0, &[0])], (8, 0)),
-        case("J", vec![encode(3, 0, &[16])], (6, 0)),
-        case("K", vec![encode(1, OPERATOR, &[0])], (7, 0)),
-        case("L", vec![encode(19, 0, &[4, 3])], (11, 0)),
-    ]
+    let cases = A_TO_L.into_iter().chain(PUBLIC_ROLES);
+    let case = |(name, rows, expected)| Case {
+        name,
+        records: records(rows),
+        expected,
+    };
+    cases.map(case).collect()
 }

@@ -2,15 +2,17 @@
 
 use crate::engine::Answer;
 use crate::lawful::{Law, LAWS};
-use crate::record::{decode, Call};
+use crate::record::{decode, Call, KINDS};
+use crate::refusals::{linked_role, REFUSALS};
 use crate::sets::{own, Grant, Permission, SessionName, Sets};
 use std::collections::{BTreeMap, BTreeSet};
 
 /// What a call can clear.
-const CLEARED: [&str; 9] = [
+const CLEARED: [&str; 10] = [
     "trust",
     "users",
     "roles",
+    "public",
     "permissions",
     "held",
     "grants",
@@ -21,25 +23,30 @@ const CLEARED: [&str; 9] = [
 
 /// What each clearing kind must have cleared at least once: its own thing and what the cascade
 /// sentences name.
-const MUST_CLEAR: [(usize, &[&str]); 10] = [
+#[rustfmt::skip]
+const MUST_CLEAR: [(usize, &[&str]); 11] = [
     (2, &CLEARED),
     (4, &["trust", "grants", "attachments"]),
     (6, &["users", "held", "sessions", "active"]),
-    (8, &["roles", "held", "grants", "attachments", "active"]),
+    (8, &["roles", "public", "held", "grants", "attachments", "active"]),
     (10, &["permissions", "grants"]),
     (12, &["held", "active"]),
     (14, &["grants"]),
     (16, &["attachments"]),
     (18, &["sessions", "active"]),
     (20, &["active"]),
+    (23, &["public", "grants", "attachments"]),
 ];
 
 /// How many there are of each of `CLEARED`.
-pub fn sizes(sets: &Sets) -> [usize; 9] {
+pub type Sizes = [usize; CLEARED.len()];
+
+pub fn sizes(sets: &Sets) -> Sizes {
     [
         sets.trust.len(),
         sets.users.len(),
         sets.roles.len(),
+        sets.public.len(),
         sets.permissions.len(),
         sets.held.len(),
         sets.grants.len(),
@@ -56,14 +63,18 @@ pub struct Counts {
     /// Calls on damaged or other states, among the calls.
     pub on_other_states: u64,
     pub starts: u64,
-    tried: [u64; 22],
-    accepted: [u64; 22],
-    refusals: [u64; 14],
+    tried: [u64; KINDS + 1],
+    accepted: [u64; KINDS + 1],
+    /// The accepted ones of kinds 13 to 16 that name another estate's role.
+    accepted_across: [u64; KINDS + 1],
+    /// Refusals 14.
+    not_public: [u64; KINDS + 1],
+    refusals: [u64; REFUSALS + 1],
     /// Verdicts 1 by the least number of attachments walked: 0, 1, 2, 3, 4 or more.
     verdicts: [u64; 5],
     verdicts_on_other_states: u64,
     /// How much each kind cleared.
-    cleared: [[u64; 9]; 22],
+    cleared: [[u64; CLEARED.len()]; KINDS + 1],
     /// States that broke one clause of "Lawful means" and no other.
     broken_alone: BTreeMap<Law, u64>,
 }
@@ -73,15 +84,18 @@ impl Counts {
         self.calls += 1;
         self.refusals[usize::from(answer.refusal)] += 1;
         if let Some(decoded) = decode(record) {
-            self.tried[decoded.kind] += 1;
-            if answer.refusal == 0 {
-                self.accepted[decoded.kind] += 1;
-            }
+            let kind = decoded.kind;
+            let across = linked_role(&decoded).is_some_and(|role| role.issuer != decoded.caller);
+            let accepted = answer.refusal == 0;
+            self.tried[kind] += 1;
+            self.accepted[kind] += u64::from(accepted);
+            self.accepted_across[kind] += u64::from(accepted && across);
+            self.not_public[kind] += u64::from(answer.refusal == 14);
         }
     }
 
     /// An accepted call on the present state: what it cleared, and how far a verdict 1 went.
-    pub fn changed(&mut self, record: &[u8], answer: Answer, before: [usize; 9], after: &Sets) {
+    pub fn changed(&mut self, record: &[u8], answer: Answer, before: Sizes, after: &Sets) {
         let Some(decoded) = decode(record) else {
             return;
         };
@@ -115,14 +129,22 @@ impl Counts {
     /// Whatever was never reached.
     pub fn missing(&self) -> Vec<String> {
         let mut missing = Vec::new();
-        for number in 1..14 {
+        for number in 1..=REFUSALS {
             if self.refusals[number] == 0 {
                 missing.push(format!("refusal {number}"));
             }
         }
-        for kind in 1..22 {
+        for kind in 1..=KINDS {
             if self.accepted[kind] == 0 {
                 missing.push(format!("kind {kind} accepted"));
+            }
+        }
+        for kind in 13..=16 {
+            if self.accepted_across[kind] == 0 {
+                missing.push(format!("kind {kind} accepted across estates"));
+            }
+            if self.not_public[kind] == 0 {
+                missing.push(format!("kind {kind} refused with 14"));
             }
         }
         for (walked, &count) in self.verdicts.iter().enumerate() {
@@ -157,7 +179,7 @@ impl Counts {
         println!("starts of used states     {}", self.starts);
         println!("accepted                  {accepted}");
         print!("refusals                 ");
-        for number in 1..14 {
+        for number in 1..=REFUSALS {
             print!(" {number}: {}", self.refusals[number]);
         }
         println!();
@@ -173,8 +195,13 @@ impl Counts {
             self.verdicts[3],
             self.verdicts[4]
         );
+        println!("kind: accepted across estates, refused with 14");
+        for kind in 13..=16 {
+            let (accepted, refused) = (self.accepted_across[kind], self.not_public[kind]);
+            println!("  {kind:2}: {accepted:6} {refused:6}");
+        }
         println!("kind: calls, accepted, cleared");
-        for kind in 1..22 {
+        for kind in 1..=KINDS {
             let tried = self.tried[kind];
             print!("  {kind:2}: {tried:6} {:6} ", self.accepted[kind]);
             for (name, count) in CLEARED.iter().zip(self.cleared[kind]) {

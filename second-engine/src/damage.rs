@@ -1,10 +1,9 @@
 //! States for refusals 1 and 2: the present one or another, with changes that no call makes.
 
 use crate::lawful_states::lawful_sets;
+use crate::places::{session_word, CLOSED, WORDS};
 use crate::random::Random;
-use crate::sets::{
-    own, session_word, write_started, Attachment, Grant, Held, Role, Sets, Trust, CLOSED, WORDS,
-};
+use crate::sets::{own, write_started, Attachment, Grant, Held, Role, Sets, Trust};
 use crate::worlds::{Thing, World};
 use std::collections::BTreeSet;
 use std::fmt;
@@ -96,7 +95,7 @@ pub fn any_damage(random: &mut Random, world: &World, present: &[u16]) -> Damage
 fn change(random: &mut Random, world: &World, words: &mut [u16]) -> usize {
     match random.below(20) {
         // a wrong length, also one that is right modulo 65536
-        0 => return random.pick(&[0, 1, 9024, 9026, 9027, 18050, 65536 + WORDS]),
+        0 => return random.pick(&[0, 1, 9025, 9040, 9042, 9043, 18082, 65536 + WORDS]),
         // nothing
         1 => {}
         // any bits, any word
@@ -127,14 +126,18 @@ fn change(random: &mut Random, world: &World, words: &mut [u16]) -> usize {
         // something put in or taken out without its cascade
         _ => {
             let mut sets = Sets::read(words);
-            turn_over(random, world, &mut sets);
+            if random.percent(20) {
+                undercut(random, &mut sets);
+            } else {
+                turn_over(random, world, &mut sets);
+            }
             sets.write(words);
         }
     }
     WORDS
 }
 
-/// Attaches a role above one that reaches it, where trust allows that.
+/// Attaches a role above one that reaches it, where no other clause forbids that.
 fn put_circle_in(random: &mut Random, sets: &mut Sets) {
     let Some(role) = random.member(&sets.roles) else {
         return;
@@ -150,12 +153,27 @@ fn put_circle_in(random: &mut Random, sets: &mut Sets) {
             return;
         };
         let below = sets.reached(junior);
-        let fits = |low: &Role| *low != junior && sets.trusts(low.issuer, junior.issuer);
+        let fits = |low: &Role| *low != junior && sets.may_link(*low, junior.issuer);
         if let Some(senior) = random.member_where(&below, fits) {
             circle = Attachment { senior, junior };
         }
     }
     sets.attachments.insert(circle);
+}
+
+/// Takes away what a link between two estates needs: the trust, or that the role is public.
+fn undercut(random: &mut Random, sets: &mut Sets) {
+    let links: Vec<(Role, usize)> = sets.links().collect();
+    let Some((role, trustee)) = random.pick_where(&links, |(role, owner)| role.issuer != *owner)
+    else {
+        return;
+    };
+    let trustor = role.issuer;
+    if random.percent(50) {
+        sets.trust.remove(&Trust { trustor, trustee });
+    } else {
+        sets.public.remove(&role);
+    }
 }
 
 /// Puts one thing of the world in if it is not there, or takes it out if it is.
@@ -171,18 +189,25 @@ fn turn_over(random: &mut Random, world: &World, sets: &mut Sets) {
     let role = own(issuer, world.name(random, Thing::Role));
     let permission = own(other, world.name(random, Thing::Permission));
     let trust = |trustor, trustee| Trust { trustor, trustee };
-    match random.below(10) {
+    match random.below(12) {
         0 => turn(&mut sets.enrolled, issuer),
         1 => turn(&mut sets.trust, trust(issuer, other)),
         2 => turn(&mut sets.trust, trust(issuer, issuer)),
         3 => turn(&mut sets.users, user),
-        4 => turn(&mut sets.roles, role),
+        // its public bit stays, or goes with it
+        4 => {
+            turn(&mut sets.roles, role);
+            if random.percent(50) {
+                sets.public.remove(&role);
+            }
+        }
         5 => turn(&mut sets.permissions, permission),
         6 => {
             let role = role.number;
             turn(&mut sets.held, Held { user, role });
         }
         7 | 8 => turn(&mut sets.grants, Grant { role, permission }),
+        9 | 10 => turn(&mut sets.public, role),
         _ => {
             let senior = role;
             let junior = own(other, world.name(random, Thing::Role));

@@ -2,9 +2,10 @@
 
 use crate::cascades::carry_out;
 use crate::lawful::lawful;
+use crate::places::WORDS;
 use crate::record::{decode, Call};
 use crate::refusals::refusal;
-use crate::sets::{own, write_started, Sets, WORDS};
+use crate::sets::{own, write_started, Sets};
 
 /// "An answer is two numbers: a refusal (0 for accepted) and a verdict."
 #[derive(Clone, Copy, Debug, PartialEq, Eq)]
@@ -43,7 +44,7 @@ pub fn start(words: &mut [u16]) -> Answer {
 
 /// Plays one record; the words are read anew.
 pub fn call(words: &mut [u16], record: &[u8]) -> Answer {
-    // 1: "state not 9,025 words"
+    // 1: "state not 9,025 words", now 9,041
     if words.len() != WORDS {
         return refused(1);
     }

@@ -5,10 +5,11 @@ use crate::counts::{sizes, Counts};
 use crate::damage::{any_damage, Damage};
 use crate::engine::{Answer, Desk};
 use crate::lawful::{broken_laws, lawful};
+use crate::places::WORDS;
 use crate::random::Random;
 use crate::records::any_record;
 use crate::report::{announce, report, shortened, size};
-use crate::sets::{Sets, WORDS};
+use crate::sets::Sets;
 use crate::side_by_side::{SideBySide, Step};
 use crate::worlds::World;
 

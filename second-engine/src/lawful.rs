@@ -3,7 +3,7 @@
 use crate::sets::{own, Attachment, Held, Role, Sets};
 use std::collections::BTreeSet;
 
-/// The clauses of "Lawful means", in the order of the sentence.
+/// The clauses of "Lawful means", in the order of the sentence, then those of the public roles.
 #[derive(Clone, Copy, Debug, PartialEq, Eq, PartialOrd, Ord)]
 pub enum Law {
     TrustAmongEnrolled,
@@ -19,9 +19,12 @@ pub enum Law {
     OpenHasUser,
     ActiveIsHeld,
     NoCircle,
+    PublicIsPresent,
+    GrantPublic,
+    AttachmentPublic,
 }
 
-pub const LAWS: [Law; 13] = [
+pub const LAWS: [Law; 16] = [
     Law::TrustAmongEnrolled,
     Law::EnrolledTrustsItself,
     Law::OwnerEnrolled,
@@ -35,6 +38,9 @@ pub const LAWS: [Law; 13] = [
     Law::OpenHasUser,
     Law::ActiveIsHeld,
     Law::NoCircle,
+    Law::PublicIsPresent,
+    Law::GrantPublic,
+    Law::AttachmentPublic,
 ];
 
 pub fn lawful(sets: &Sets) -> bool {
@@ -102,6 +108,17 @@ fn kept(sets: &Sets, law: Law) -> bool {
         }),
         // "no role reaches itself by one or more attachments"
         Law::NoCircle => !has_circle(sets),
+        // "only present roles there"
+        Law::PublicIsPresent => sets.public.is_subset(&sets.roles),
+        // "and links across estates only on public ones"
+        Law::GrantPublic => sets
+            .grants
+            .iter()
+            .all(|grant| sets.shown_to(grant.role, grant.permission.issuer)),
+        Law::AttachmentPublic => sets
+            .attachments
+            .iter()
+            .all(|attachment| sets.shown_to(attachment.senior, attachment.junior.issuer)),
     }
 }
 

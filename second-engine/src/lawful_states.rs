@@ -32,6 +32,11 @@ pub fn lawful_sets(random: &mut Random) -> Sets {
             }
         }
     }
+    for &role in &sets.roles {
+        if random.percent(thick) {
+            sets.public.insert(role);
+        }
+    }
     for &user in &sets.users {
         for role in sets.roles.iter().filter(|role| role.issuer == user.issuer) {
             if random.percent(thick) {
@@ -58,13 +63,13 @@ pub fn lawful_sets(random: &mut Random) -> Sets {
     order.sort();
     for (place, &(_, senior)) in order.iter().enumerate() {
         for &(_, junior) in &order[place + 1..] {
-            if sets.trusts(senior.issuer, junior.issuer) && random.percent(thin) {
+            if sets.may_link(senior, junior.issuer) && random.percent(thin) {
                 sets.attachments.insert(Attachment { senior, junior });
             }
         }
         for &permission in &sets.permissions {
             let role = senior;
-            if sets.trusts(role.issuer, permission.issuer) && random.percent(thin) {
+            if sets.may_link(role, permission.issuer) && random.percent(thin) {
                 sets.grants.insert(Grant { role, permission });
             }
         }

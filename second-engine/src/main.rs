@@ -4,8 +4,9 @@
 //! `cargo run --release` plays 300,000 calls and 300 pairs of histories; `cargo test` tries the
 //! engine itself on the paper's cases. `build.rs` says where the library is looked for.
 //!
-//! The engine: `sets`, `lawful`, `record`, `refusals`, `cascades`, `engine`. The journals:
-//! `worlds`, `records`, `lawful_states`, `damage`, `journals`. Demand 3: `histories`, `pairs`.
+//! The engine: `places`, `sets`, `lawful`, `record`, `refusals`, `cascades`, `engine`. The
+//! journals: `worlds`, `records`, `lawful_states`, `damage`, `journals`. Demand 3: `histories`,
+//! `pairs`.
 
 mod cascades;
 mod cases;
@@ -20,6 +21,7 @@ mod library;
 mod pair_counts;
 mod pairs;
 mod patience;
+mod places;
 mod random;
 mod record;
 mod records;

@@ -1,9 +1,41 @@
 //! What the random pairs of histories have reached.
 
 use crate::histories::{outsiders, trusts_a_member, In, Pair};
-use crate::pairs::{remaining_answers, Played};
-use crate::sets::{Role, Sets};
+use crate::pairs::Played;
+use crate::record::decode;
+use crate::sets::Sets;
 use std::collections::BTreeSet;
+
+/// What came of the records that remain, or of the outsiders'.
+#[derive(Default)]
+struct Answered {
+    accepted: u64,
+    refused: u64,
+    /// Refusals 14, among the refused.
+    not_public: u64,
+    /// Kinds 22 and 23, among the accepted.
+    published: u64,
+    unpublished: u64,
+    verdicts: u64,
+}
+
+impl Answered {
+    fn count(&mut self, record: &[u8], answer: u64) {
+        let (refusal, verdict) = (answer % 65536, answer / 65536);
+        let accepted = refusal == 0;
+        let kind = decode(record).map(|decoded| decoded.kind);
+        self.accepted += u64::from(accepted);
+        self.refused += u64::from(!accepted);
+        self.not_public += u64::from(refusal == 14);
+        self.published += u64::from(accepted && kind == Some(22));
+        self.unpublished += u64::from(accepted && kind == Some(23));
+        self.verdicts += verdict;
+    }
+
+    fn all(&self) -> u64 {
+        self.accepted + self.refused
+    }
+}
 
 #[derive(Default)]
 pub struct PairCounts {
@@ -11,12 +43,8 @@ pub struct PairCounts {
     /// Outsiders' kind 3 naming a member, left out as they would have been accepted.
     pub avoided: u64,
     refused_trust: u64,
-    records: u64,
-    remaining: u64,
-    remaining_accepted: u64,
-    remaining_verdicts: u64,
-    outsiders_accepted: u64,
-    outsiders_refused: u64,
+    remaining: Answered,
+    outsiders: Answered,
     empty_sets: u64,
     full_sets: u64,
     /// Links are grants and attachments between different issuers, at the end.
@@ -34,29 +62,21 @@ impl PairCounts {
         self.full_sets += u64::from(pair.members.len() == 16);
         self.different_ends += u64::from(first.words != second.words);
         for (which, played) in [(In::First, first), (In::Second, second)] {
-            for answer in remaining_answers(pair, which, played) {
-                self.remaining += 1;
-                self.remaining_accepted += u64::from(answer % 65536 == 0);
-                self.remaining_verdicts += u64::from(answer / 65536 == 1);
-            }
-            for (record, answer) in pair.history(which).iter().zip(&played.answers) {
-                self.records += 1;
-                if !outsiders(&pair.members, record) {
-                    continue;
-                }
-                if answer % 65536 == 0 {
-                    self.outsiders_accepted += 1;
+            for (record, &answer) in pair.history(which).iter().zip(&played.answers) {
+                if outsiders(&pair.members, record) {
+                    self.outsiders.count(record, answer);
                 } else {
-                    self.outsiders_refused += 1;
-                    self.refused_trust += u64::from(trusts_a_member(&pair.members, record));
+                    self.remaining.count(record, answer);
                 }
+                let refused_trust = answer != 0 && trusts_a_member(&pair.members, record);
+                self.refused_trust += u64::from(refused_trust);
             }
             self.count_end(&pair.members, &Sets::read(&played.words));
         }
     }
 
     fn count_end(&mut self, members: &BTreeSet<usize>, sets: &Sets) {
-        let mut link = |role: Role, owner: usize| {
+        for (role, owner) in sets.links() {
             let ends = (members.contains(&role.issuer), members.contains(&owner));
             if role.issuer != owner {
                 match ends {
@@ -65,12 +85,6 @@ impl PairCounts {
                     _ => self.outsider_links += 1,
                 }
             }
-        };
-        for grant in &sets.grants {
-            link(grant.role, grant.permission.issuer);
-        }
-        for attachment in &sets.attachments {
-            link(attachment.senior, attachment.junior.issuer);
         }
         for &name in sets.sessions.keys() {
             for &permission in &sets.permissions {
@@ -86,18 +100,29 @@ impl PairCounts {
         }
     }
 
-    fn lines(&self) -> [(&'static str, u64); 16] {
+    fn lines(&self) -> [(&'static str, u64); 22] {
+        let PairCounts {
+            remaining,
+            outsiders,
+            ..
+        } = self;
         [
             ("pairs of histories", self.pairs),
             ("  of the empty set", self.empty_sets),
             ("  of all issuers", self.full_sets),
             ("  whose ends differ", self.different_ends),
-            ("records played in them", self.records),
-            ("records that remain", self.remaining),
-            ("  accepted", self.remaining_accepted),
-            ("  verdicts 1", self.remaining_verdicts),
-            ("outsiders' accepted", self.outsiders_accepted),
-            ("outsiders' refused", self.outsiders_refused),
+            ("records played in them", remaining.all() + outsiders.all()),
+            ("records that remain", remaining.all()),
+            ("  accepted", remaining.accepted),
+            ("  publishing", remaining.published),
+            ("  unpublishing", remaining.unpublished),
+            ("  refused with 14", remaining.not_public),
+            ("  verdicts 1", remaining.verdicts),
+            ("outsiders' accepted", outsiders.accepted),
+            ("outsiders' publishing", outsiders.published),
+            ("outsiders' unpublishing", outsiders.unpublished),
+            ("outsiders' refused", outsiders.refused),
+            ("outsiders' refusals 14", outsiders.not_public),
             ("  trusting a member", self.refused_trust),
             ("links among members", self.member_links),
             ("links member-outsider", self.links_to_outsiders),

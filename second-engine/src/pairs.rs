@@ -3,12 +3,13 @@
 use crate::histories::{any_pair, outsiders, trusts_a_member, In, Pair};
 use crate::library::Lent;
 use crate::pair_counts::PairCounts;
+use crate::places::{
+    attachment_word, grant_word, held_word, permissions_word, public_word, roles_word,
+    session_word, trust_word, users_word, WORDS,
+};
 use crate::random::Random;
 use crate::report::{announce, report};
-use crate::sets::{
-    attachment_word, grant_word, held_word, own, permissions_word, roles_word, session_word,
-    trust_word, users_word, Sets, WORDS,
-};
+use crate::sets::{own, Sets};
 use crate::shrink::shrink;
 use crate::side_by_side::{hex, SideBySide, Step};
 
@@ -114,7 +115,7 @@ fn premise_fails(pair: &Pair, which: In, played: &Played) -> bool {
     answered.any(|(record, answer)| answer % 65536 == 0 && trusts_a_member(&pair.members, record))
 }
 
-pub fn remaining_answers(pair: &Pair, which: In, played: &Played) -> Vec<u64> {
+fn remaining_answers(pair: &Pair, which: In, played: &Played) -> Vec<u64> {
     let records = pair.history(which);
     let answered = records.iter().zip(&played.answers);
     let remaining = answered.filter(|(record, _)| !outsiders(&pair.members, record));
@@ -122,11 +123,11 @@ pub fn remaining_answers(pair: &Pair, which: In, played: &Played) -> Vec<u64> {
 }
 
 /// "In j's own name stand its enrolled bit, its trust word, its users, roles, permissions, held
-/// words and sessions, and the words of j%p and j#q."
+/// words and sessions, and the words of j%p and j#q." Its public word is set by its own calls.
 fn own_name(words: &[u16], j: usize) -> Vec<u16> {
     let enrolled = words[0] / (1 << j) % 2;
     let mut places = vec![trust_word(j), users_word(j), roles_word(j)];
-    places.push(permissions_word(j));
+    places.extend([permissions_word(j), public_word(j)]);
     for n in 0..16 {
         places.push(held_word(j, n));
         places.extend([session_word(j, n), session_word(j, n) + 1]);

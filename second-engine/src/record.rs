@@ -3,7 +3,10 @@
 /// "The portal's operator is caller 16."
 pub const OPERATOR: usize = 16;
 
-/// "one of twenty-one calls, each with its own arguments"
+/// "Kinds 22 and 23" are the last ones.
+pub const KINDS: usize = 23;
+
+/// "one of twenty-one calls, each with its own arguments", and kinds 22 and 23.
 #[derive(Clone, Copy, Debug, PartialEq, Eq)]
 #[rustfmt::skip]
 pub enum Call {
@@ -29,6 +32,8 @@ pub enum Call {
     Activate { session: usize, role: usize },
     Deactivate { session: usize, role: usize },
     MayUse { permission: usize, issuer: usize, session: usize },
+    PublishRole { role: usize },
+    UnpublishRole { role: usize },
 }
 
 #[derive(Clone, Debug, PartialEq, Eq)]
@@ -77,6 +82,8 @@ pub fn decode(record: &[u8]) -> Option<Decoded> {
         (19, &[session, role]) => Call::Activate { session, role },
         (20, &[session, role]) => Call::Deactivate { session, role },
         (21, &[permission, issuer, session]) => Call::MayUse { permission, issuer, session },
+        (22, &[role]) => Call::PublishRole { role },
+        (23, &[role]) => Call::UnpublishRole { role },
         // "kind unknown, or length wrong for the kind"
         _ => return None,
     };

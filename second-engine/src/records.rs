@@ -2,7 +2,7 @@
 
 use crate::random::Random;
 use crate::record::{encode, OPERATOR};
-use crate::sets::{own, Held, Permission, Role, SessionName, Sets};
+use crate::sets::{own, Held, Permission, Role, SessionName, Sets, Trust};
 use crate::worlds::{arguments, Thing, World};
 
 /// One record for a state with these sets.
@@ -92,7 +92,7 @@ pub fn undecodable(random: &mut Random, world: &World) -> Vec<u8> {
         6 => record[1] = random.pick(&[1, 128, 255]),
         7 => record[0] = 0,
         // kind unknown
-        8 => record[2] = random.pick(&[0, 22, 23, 32, 37, 128, 255]),
+        8 => record[2] = random.pick(&[0, 24, 25, 32, 37, 128, 255]),
         9 => record[3] = random.pick(&[1, 2, 16, 128, 255]),
         // length wrong for the kind
         10 => {
@@ -173,7 +173,7 @@ fn aimed(random: &mut Random, world: &World, sets: &Sets, kind: usize) -> Option
         13 => {
             let trust = random.member(&sets.trust)?;
             let fits = |role: Role| !world.deep || sets.juniors(role).next().is_none();
-            let role = role_of(random, sets, trust.trustor, fits)?;
+            let role = role_for(random, sets, trust, fits)?;
             let by_trustee = |p: &Permission| p.issuer == trust.trustee;
             let permission = random.member_where(&sets.permissions, by_trustee)?;
             let arguments = vec![permission.number, role.issuer, role.number];
@@ -189,7 +189,7 @@ fn aimed(random: &mut Random, world: &World, sets: &Sets, kind: usize) -> Option
             let trust = random.member(&sets.trust)?;
             let few_below = |role: Role| !world.deep || sets.juniors(role).count() < 2;
             let none_above = |role: Role| !world.deep || !has_senior(sets, role);
-            let senior = role_of(random, sets, trust.trustor, few_below)?;
+            let senior = role_for(random, sets, trust, few_below)?;
             let junior = role_of(random, sets, trust.trustee, none_above)?;
             let arguments = vec![junior.number, senior.issuer, senior.number];
             (junior.issuer, arguments)
@@ -226,7 +226,7 @@ fn aimed(random: &mut Random, world: &World, sets: &Sets, kind: usize) -> Option
             let role = random.member(&sets.sessions[&name].active)?;
             (name.issuer, vec![name.number, role])
         }
-        _ => {
+        21 => {
             let name = open_session(random, sets)?;
             let usable = |&permission: &_| sets.may_use(name, permission);
             let permission = if random.percent(50) {
@@ -236,6 +236,14 @@ fn aimed(random: &mut Random, world: &World, sets: &Sets, kind: usize) -> Option
             };
             let arguments = vec![permission.number, name.issuer, name.number];
             (permission.issuer, arguments)
+        }
+        // Any role is looked at, so that the two weights settle how many are public.
+        _ => {
+            let role = random.member(&sets.roles)?;
+            if sets.public.contains(&role) != (kind == 23) {
+                return None;
+            }
+            (role.issuer, vec![role.number])
         }
     };
     Some(encode(kind, caller, &arguments))
@@ -248,6 +256,18 @@ fn role_of(
     fits: impl Fn(Role) -> bool,
 ) -> Option<Role> {
     random.member_where(&sets.roles, |&role| role.issuer == issuer && fits(role))
+}
+
+/// A role of the trustor, mostly one that the trustee may link to.
+fn role_for(
+    random: &mut Random,
+    sets: &Sets,
+    trust: Trust,
+    fits: impl Fn(Role) -> bool,
+) -> Option<Role> {
+    let any = random.percent(15);
+    let fits = |role| (any || sets.shown_to(role, trust.trustee)) && fits(role);
+    role_of(random, sets, trust.trustor, fits)
 }
 
 fn has_senior(sets: &Sets, role: Role) -> bool {

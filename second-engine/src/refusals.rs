@@ -1,12 +1,15 @@
-//! "When a call is turned down": rows 4 to 13, "tried from 1 upwards".
+//! "When a call is turned down": rows 4 to 14, "tried from 1 upwards", 14 "directly after 10".
 //! Rows 1 to 3 are tried in `engine.rs`, before there are sets and a call.
 
 use crate::record::{Call, Decoded, OPERATOR};
-use crate::sets::{own, Attachment, Grant, Held, Sets};
+use crate::sets::{own, Attachment, Grant, Held, Role, Sets};
 
 type Applies = fn(&Sets, &Decoded) -> bool;
 
-const ROWS: [(u16, Applies); 10] = [
+/// The highest number of a refusal.
+pub const REFUSALS: usize = 14;
+
+const ROWS: [(u16, Applies); 11] = [
     (4, caller_out_of_place),
     (5, caller_not_enrolled),
     (6, argument_above_15),
@@ -14,6 +17,7 @@ const ROWS: [(u16, Applies); 10] = [
     (8, names_the_caller),
     (9, caller_not_trusted),
     (10, something_absent),
+    (14, not_public),
     (11, role_not_held),
     (12, nothing_to_change),
     (13, closes_a_circle),
@@ -27,6 +31,19 @@ pub fn refusal(sets: &Sets, decoded: &Decoded) -> u16 {
         }
     }
     0
+}
+
+/// Kinds 13 to 16: the role or senior i#r that they name.
+pub fn linked_role(decoded: &Decoded) -> Option<Role> {
+    match decoded.call {
+        Call::Grant { issuer, role, .. } | Call::Ungrant { issuer, role, .. } => {
+            Some(own(issuer, role))
+        }
+        Call::Attach { issuer, senior, .. } | Call::Detach { issuer, senior, .. } => {
+            Some(own(issuer, senior))
+        }
+        _ => None,
+    }
 }
 
 /// 4: "caller above 16; kinds 1, 2 not from 16; other kinds from 16"
@@ -53,11 +70,7 @@ fn named_issuer_wrong(sets: &Sets, decoded: &Decoded) -> bool {
         Call::Enrol { issuer } => enrolled(issuer),
         Call::Strike { issuer } => !enrolled(issuer),
         Call::GiveTrust { trustee } | Call::WithdrawTrust { trustee } => !enrolled(trustee),
-        Call::Grant { issuer, .. }
-        | Call::Ungrant { issuer, .. }
-        | Call::Attach { issuer, .. }
-        | Call::Detach { issuer, .. } => !enrolled(issuer),
-        _ => false,
+        _ => linked_role(decoded).is_some_and(|role| !enrolled(role.issuer)),
     }
 }
 
@@ -71,17 +84,11 @@ fn names_the_caller(_: &Sets, decoded: &Decoded) -> bool {
 
 /// 9: "kinds 13 to 16: named issuer doesn't trust the caller"
 fn caller_not_trusted(sets: &Sets, decoded: &Decoded) -> bool {
-    match decoded.call {
-        Call::Grant { issuer, .. }
-        | Call::Ungrant { issuer, .. }
-        | Call::Attach { issuer, .. }
-        | Call::Detach { issuer, .. } => !sets.trusts(issuer, decoded.caller),
-        _ => false,
-    }
+    linked_role(decoded).is_some_and(|role| !sets.trusts(role.issuer, decoded.caller))
 }
 
 /// 10: "a named user, role or permission absent (kinds 5, 7, 9 excepted, kind 21 only p);
-/// kinds 18 to 20: session closed"
+/// kinds 18 to 20: session closed"; "Kinds 22 and 23 give 10 as kind 8 does"
 fn something_absent(sets: &Sets, decoded: &Decoded) -> bool {
     let caller = decoded.caller;
     let no_user = |user| !sets.users.contains(&own(caller, user));
@@ -93,7 +100,9 @@ fn something_absent(sets: &Sets, decoded: &Decoded) -> bool {
         Call::GiveTrust { .. } | Call::WithdrawTrust { .. } => false,
         Call::AddUser { .. } | Call::AddRole { .. } | Call::AddPermission { .. } => false,
         Call::RemoveUser { user } => no_user(user),
-        Call::RemoveRole { role } => no_role(caller, role),
+        Call::RemoveRole { role } | Call::PublishRole { role } | Call::UnpublishRole { role } => {
+            no_role(caller, role)
+        }
         Call::RemovePermission { permission } => no_permission(permission),
         Call::GiveRole { user, role } | Call::TakeRole { user, role } => {
             no_user(user) || no_role(caller, role)
@@ -127,6 +136,11 @@ fn something_absent(sets: &Sets, decoded: &Decoded) -> bool {
     }
 }
 
+/// 14: "role or senior not public across estates, kinds 13 to 16"
+fn not_public(sets: &Sets, decoded: &Decoded) -> bool {
+    linked_role(decoded).is_some_and(|role| !sets.shown_to(role, decoded.caller))
+}
+
 /// 11: "kind 19: user doesn't hold the role"
 fn role_not_held(sets: &Sets, decoded: &Decoded) -> bool {
     let Call::Activate { session, role } = decoded.call else {
@@ -140,7 +154,7 @@ fn role_not_held(sets: &Sets, decoded: &Decoded) -> bool {
 }
 
 /// 12: "nothing to change: already there, open or active (3, 5, 7, 9, 11, 13, 15, 17, 19),
-/// or not there (4, 12, 14, 16, 20)"
+/// or not there (4, 12, 14, 16, 20)"; kinds 22 and 23 give "12 as kinds 11 and 12 do"
 fn nothing_to_change(sets: &Sets, decoded: &Decoded) -> bool {
     let caller = decoded.caller;
     let holds = |user, role| {
@@ -170,12 +184,14 @@ fn nothing_to_change(sets: &Sets, decoded: &Decoded) -> bool {
         Call::Attach { junior, issuer, senior } => attached(junior, own(issuer, senior)),
         Call::OpenSession { session, .. } => sets.sessions.contains_key(&own(caller, session)),
         Call::Activate { session, role } => active(session, role),
+        Call::PublishRole { role } => sets.public.contains(&own(caller, role)),
 
         Call::WithdrawTrust { trustee } => !sets.trusts(caller, trustee),
         Call::TakeRole { user, role } => !holds(user, role),
         Call::Ungrant { permission, issuer, role } => !granted(permission, own(issuer, role)),
         Call::Detach { junior, issuer, senior } => !attached(junior, own(issuer, senior)),
         Call::Deactivate { session, role } => !active(session, role),
+        Call::UnpublishRole { role } => !sets.public.contains(&own(caller, role)),
 
         Call::Enrol { .. } | Call::Strike { .. } => false,
         Call::RemoveUser { .. } | Call::RemoveRole { .. } | Call::RemovePermission { .. } => false,

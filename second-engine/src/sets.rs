@@ -1,12 +1,10 @@
 //! The state as plain sets, and the way between sets and words ("The state").
 
+use crate::places::{
+    attachment_word, grant_word, held_word, permissions_word, public_word, roles_word,
+    session_word, trust_word, users_word, Place, CLOSED, WORDS,
+};
 use std::collections::{BTreeMap, BTreeSet};
-
-/// "The state is 9,025 unsigned 16-bit words."
-pub const WORDS: usize = 9025;
-
-/// A session's user word "when closed".
-pub const CLOSED: u16 = 65535;
 
 /// A thing that an issuer owns: i@u, i#r, i%p or i/s.
 #[derive(Clone, Copy, Debug, PartialEq, Eq, PartialOrd, Ord)]
@@ -66,6 +64,7 @@ pub struct Sets {
     pub trust: BTreeSet<Trust>,
     pub users: BTreeSet<User>,
     pub roles: BTreeSet<Role>,
+    pub public: BTreeSet<Role>,
     pub permissions: BTreeSet<Permission>,
     pub held: BTreeSet<Held>,
     pub grants: BTreeSet<Grant>,
@@ -74,43 +73,6 @@ pub struct Sets {
     pub sessions: BTreeMap<SessionName, Session>,
     /// Active roles of closed sessions: none in a lawful state.
     pub active_in_closed: BTreeSet<(SessionName, usize)>,
-}
-
-// Where each word lies.
-
-pub fn trust_word(i: usize) -> usize {
-    1 + i
-}
-
-pub fn users_word(i: usize) -> usize {
-    17 + i
-}
-
-pub fn roles_word(i: usize) -> usize {
-    33 + i
-}
-
-pub fn permissions_word(i: usize) -> usize {
-    49 + i
-}
-
-pub fn held_word(i: usize, u: usize) -> usize {
-    65 + 16 * i + u
-}
-
-/// Roles of i that hold j%p.
-pub fn grant_word(j: usize, p: usize, i: usize) -> usize {
-    321 + 16 * (16 * j + p) + i
-}
-
-/// Roles of i that are direct seniors of j#q.
-pub fn attachment_word(j: usize, q: usize, i: usize) -> usize {
-    4417 + 16 * (16 * j + q) + i
-}
-
-/// The session's user; the word after it has the active roles.
-pub fn session_word(i: usize, s: usize) -> usize {
-    8513 + 2 * (16 * i + s)
 }
 
 /// The numbers of a word's bits: "Bit n has weight 2 to the power n."
@@ -124,7 +86,7 @@ fn set_bit(word: &mut u16, n: usize) {
 }
 
 impl Sets {
-    /// What 9,025 words say, lawful or not.
+    /// What 9,041 words say, lawful or not.
     pub fn read(words: &[u16]) -> Sets {
         assert_eq!(words.len(), WORDS);
         let mut sets = Sets::default();
@@ -136,12 +98,14 @@ impl Sets {
                     trustee,
                 });
             }
-            sets.users
-                .extend(bits(words[users_word(i)]).map(|u| own(i, u)));
-            sets.roles
-                .extend(bits(words[roles_word(i)]).map(|r| own(i, r)));
-            sets.permissions
-                .extend(bits(words[permissions_word(i)]).map(|p| own(i, p)));
+            for (things, place) in [
+                (&mut sets.users, users_word(i)),
+                (&mut sets.roles, roles_word(i)),
+                (&mut sets.public, public_word(i)),
+                (&mut sets.permissions, permissions_word(i)),
+            ] {
+                things.extend(bits(words[place]).map(|n| own(i, n)));
+            }
             for n in 0..16 {
                 sets.read_held(words, own(i, n));
                 sets.read_grants(words, own(i, n));
@@ -189,7 +153,7 @@ impl Sets {
         }
     }
 
-    /// Writes the sets into 9,025 words; reading gives the same sets back.
+    /// Writes the sets into 9,041 words; reading gives the same sets back.
     pub fn write(&self, words: &mut [u16]) {
         write_started(words);
         for &issuer in &self.enrolled {
@@ -198,15 +162,16 @@ impl Sets {
         for trust in &self.trust {
             set_bit(&mut words[trust_word(trust.trustor)], trust.trustee);
         }
-        for user in &self.users {
-            set_bit(&mut words[users_word(user.issuer)], user.number);
-        }
-        for role in &self.roles {
-            set_bit(&mut words[roles_word(role.issuer)], role.number);
-        }
-        for permission in &self.permissions {
-            let place = permissions_word(permission.issuer);
-            set_bit(&mut words[place], permission.number);
+        let by_issuer: [(&BTreeSet<Own>, Place); 4] = [
+            (&self.users, users_word),
+            (&self.roles, roles_word),
+            (&self.public, public_word),
+            (&self.permissions, permissions_word),
+        ];
+        for (things, place) in by_issuer {
+            for thing in things {
+                set_bit(&mut words[place(thing.issuer)], thing.number);
+            }
         }
         for held in &self.held {
             let place = held_word(held.user.issuer, held.user.number);
@@ -235,6 +200,25 @@ impl Sets {
 
     pub fn trusts(&self, trustor: usize, trustee: usize) -> bool {
         self.trust.contains(&Trust { trustor, trustee })
+    }
+
+    /// "Across estates, grants and attachments need a public role or senior."
+    pub fn shown_to(&self, role: Role, other: usize) -> bool {
+        role.issuer == other || self.public.contains(&role)
+    }
+
+    /// Whether the issuer may grant to the role and attach below it.
+    pub fn may_link(&self, role: Role, issuer: usize) -> bool {
+        self.trusts(role.issuer, issuer) && self.shown_to(role, issuer)
+    }
+
+    /// The grants and attachments: the role or senior, and the other owner.
+    pub fn links(&self) -> impl Iterator<Item = (Role, usize)> + '_ {
+        let grants = self.grants.iter();
+        let grants = grants.map(|grant| (grant.role, grant.permission.issuer));
+        let attachments = self.attachments.iter();
+        let attachments = attachments.map(|link| (link.senior, link.junior.issuer));
+        grants.chain(attachments)
     }
 
     /// The roles attached directly below a role.

@@ -3,13 +3,14 @@
 use crate::cases::{cases, state_s};
 use crate::damage::any_damage;
 use crate::engine::{call, start, Answer, Desk};
-use crate::histories::outsiders;
+use crate::histories::{outsiders, trusts_a_member};
 use crate::lawful::{broken_laws, lawful, Law};
 use crate::lawful_states::lawful_sets;
+use crate::places::{public_word, WORDS};
 use crate::random::Random;
 use crate::record::{decode, encode, OPERATOR};
 use crate::records::{any_record, undecodable};
-use crate::sets::{own, Attachment, Grant, Held, Session, Sets, Trust, WORDS};
+use crate::sets::{own, Attachment, Grant, Held, Session, Sets, Trust};
 use crate::shrink::shrink;
 use crate::worlds::World;
 use std::collections::{BTreeMap, BTreeSet};
@@ -33,6 +34,7 @@ fn in_s() -> Sets {
         trust: BTreeSet::from([trust(0, 0), trust(0, 1), trust(1, 1)]),
         users: BTreeSet::from([own(0, 3)]),
         roles: BTreeSet::from([own(0, 2), own(0, 3)]),
+        public: BTreeSet::from([own(0, 2)]),
         permissions: BTreeSet::from([own(1, 5)]),
         held: BTreeSet::from([Held {
             user: own(0, 3),
@@ -53,10 +55,13 @@ fn the_records_build_s() {
     let (words, answers) = played(&state_s());
     assert!(answers.iter().all(|answer| answer.packed() == 0));
     assert_eq!(Sets::read(&words), in_s());
+    let public: Vec<u16> = (0..16).map(|i| words[public_word(i)]).collect();
+    assert_eq!(public, words[9025..]);
+    assert_eq!(public, [4, 0, 0, 0, 0, 0, 0, 0, 0, 0, 0, 0, 0, 0, 0, 0]);
 }
 
 #[test]
-fn cases_a_to_l() {
+fn the_cases() {
     for case in cases() {
         let mut words = vec![0; WORDS];
         in_s().write(&mut words);
@@ -116,7 +121,7 @@ fn the_journal_example() {
 
 #[test]
 fn wrong_lengths_are_refused_and_left() {
-    for length in [0, 1, 9024, 9026, 20000] {
+    for length in [0, 1, 9025, 9040, 9042, 20000] {
         let mut words = vec![7; length];
         assert_eq!(start(&mut words).packed(), 1);
         assert_eq!(call(&mut words, &state_s()[0]).packed(), 1);
@@ -147,6 +152,7 @@ fn circles_are_found() {
         }
     }
     sets.roles.extend(chain);
+    sets.public.extend(chain);
     for ends in chain.windows(2) {
         sets.attachments.insert(Attachment {
             senior: ends[0],
@@ -162,6 +168,53 @@ fn circles_are_found() {
         });
         assert_eq!(broken_laws(&closed), [Law::NoCircle]);
     }
+}
+
+/// S with links of both estates on 0#2: 0%1 and 1%5, and 0#3 and 1#1 below it.
+fn linked() -> Sets {
+    let mut sets = in_s();
+    sets.permissions.insert(own(0, 1));
+    sets.roles.insert(own(1, 1));
+    sets.grants.insert(Grant {
+        role: own(0, 2),
+        permission: own(0, 1),
+    });
+    for junior in [own(0, 3), own(1, 1)] {
+        let senior = own(0, 2);
+        sets.attachments.insert(Attachment { senior, junior });
+    }
+    sets
+}
+
+#[test]
+fn unpublishing_clears_the_links_of_others_and_nothing_else() {
+    let mut words = vec![0; WORDS];
+    linked().write(&mut words);
+    assert_eq!(call(&mut words, &encode(23, 0, &[2])).packed(), 0);
+    let mut left = linked();
+    left.public.clear();
+    left.grants.retain(|grant| grant.permission == own(0, 1));
+    left.attachments.retain(|link| link.junior == own(0, 3));
+    assert_eq!(Sets::read(&words), left);
+}
+
+#[test]
+fn only_public_roles_have_links_of_others() {
+    assert_eq!(broken_laws(&linked()), []);
+    let absent = own(1, 2);
+    let mut sets = linked();
+    sets.public.insert(absent);
+    assert_eq!(broken_laws(&sets), [Law::PublicIsPresent]);
+    let mut sets = linked();
+    sets.public.clear();
+    assert_eq!(
+        broken_laws(&sets),
+        [Law::GrantPublic, Law::AttachmentPublic]
+    );
+    sets.grants.retain(|grant| grant.permission == own(0, 1));
+    assert_eq!(broken_laws(&sets), [Law::AttachmentPublic]);
+    sets.attachments.retain(|link| link.junior == own(0, 3));
+    assert_eq!(broken_laws(&sets), []);
 }
 
 #[test]
@@ -209,6 +262,18 @@ fn undecodable_records_are_refused_with_3_and_are_outsiders() {
     assert!(!outsiders(&members, &encode(5, 15, &[0])));
     assert!(outsiders(&BTreeSet::new(), &encode(5, 15, &[0])));
     assert!(!outsiders(&BTreeSet::new(), &encode(5, OPERATOR, &[0])));
+}
+
+#[test]
+fn kinds_22_and_23_are_their_callers_and_give_no_trust() {
+    let members = BTreeSet::from([0, 1]);
+    for kind in [22, 23] {
+        assert!(!outsiders(&members, &encode(kind, 1, &[0])));
+        assert!(outsiders(&members, &encode(kind, 2, &[0])));
+        assert!(!trusts_a_member(&members, &encode(kind, 2, &[0])));
+    }
+    assert!(trusts_a_member(&members, &encode(3, 2, &[0])));
+    assert!(outsiders(&members, &encode(24, 1, &[0])));
 }
 
 #[test]

@@ -1,6 +1,7 @@
 //! The few names that a journal uses, and how often it makes each call.
 
 use crate::random::Random;
+use crate::record::KINDS;
 
 /// What an argument names.
 #[derive(Clone, Copy)]
@@ -12,13 +13,13 @@ pub enum Thing {
     Session,
 }
 
-/// The arguments of each kind, from 1 to 21.
+/// The arguments of each kind, from 1 to 23.
 pub fn arguments(kind: usize) -> &'static [Thing] {
     use Thing::{Issuer, Permission, Role, Session, User};
     match kind {
         1..=4 => &[Issuer],
         5 | 6 => &[User],
-        7 | 8 => &[Role],
+        7 | 8 | 22 | 23 => &[Role],
         9 | 10 => &[Permission],
         11 | 12 => &[User, Role],
         13 | 14 => &[Permission, Issuer, Role],
@@ -27,22 +28,22 @@ pub fn arguments(kind: usize) -> &'static [Thing] {
         18 => &[Session],
         19 | 20 => &[Session, Role],
         21 => &[Permission, Issuer, Session],
-        _ => unreachable!("kinds are 1 to 21"),
+        _ => unreachable!("kinds are 1 to 23"),
     }
 }
 
 /// How often each kind is tried, from kind 1 on: many things come, or as many go, or more go.
 #[rustfmt::skip]
-const COMING: [usize; 21] = [
-    30, 1, 40, 2, 25, 2, 40, 3, 25, 2, 50, 3, 50, 3, 90, 4, 40, 2, 80, 4, 80,
+const COMING: [usize; KINDS] = [
+    30, 1, 40, 2, 25, 2, 40, 3, 25, 2, 50, 3, 50, 3, 90, 4, 40, 2, 80, 4, 80, 60, 6,
 ];
 #[rustfmt::skip]
-const BALANCED: [usize; 21] = [
-    30, 2, 30, 6, 25, 5, 35, 7, 20, 6, 50, 14, 40, 14, 60, 18, 35, 8, 70, 20, 90,
+const BALANCED: [usize; KINDS] = [
+    30, 2, 30, 6, 25, 5, 35, 7, 20, 6, 50, 14, 40, 14, 60, 18, 35, 8, 70, 20, 90, 50, 14,
 ];
 #[rustfmt::skip]
-const GOING: [usize; 21] = [
-    20, 4, 20, 12, 15, 10, 20, 14, 12, 12, 35, 20, 25, 20, 35, 25, 25, 14, 50, 25, 80,
+const GOING: [usize; KINDS] = [
+    20, 4, 20, 12, 15, 10, 20, 14, 12, 12, 35, 20, 25, 20, 35, 25, 25, 14, 50, 25, 80, 40, 20,
 ];
 
 pub struct World {
@@ -51,7 +52,7 @@ pub struct World {
     roles: Vec<usize>,
     permissions: Vec<usize>,
     sessions: Vec<usize>,
-    weights: &'static [usize; 21],
+    weights: &'static [usize; KINDS],
     /// Attachments make long chains, and grants go to their lower ends.
     pub deep: bool,
 }
