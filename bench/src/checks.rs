@@ -4,13 +4,13 @@ use crate::library;
 use crate::random::Random;
 use crate::records::{random_journal, random_record, Record};
 use crate::states::Case;
-use crate::words::{self, WORDS};
+use crate::words::{self, PUBLIC, WORDS};
 
 /// What was compared.
 #[derive(Default)]
 pub struct Checked {
     pub calls: usize,
-    pub refusals: [usize; 14],
+    pub refusals: [usize; 15],
     pub verdicts: usize,
 }
 
@@ -37,7 +37,7 @@ impl Checked {
         }
     }
 
-    /// The case's own records, random ones, and random ones on a spoilt state.
+    /// The case's own records, random ones, and random ones on a spoilt state: any bit, and each public one.
     fn case(&mut self, case: &Case, random: &mut Random) {
         let mut state = case.state.clone();
         for record in records(case) {
@@ -53,11 +53,17 @@ impl Checked {
             state[at] ^= 1 << random.below(16);
             self.plays(&mut state, &random_record(random));
         }
+        for n in 0..256 {
+            let mut state = case.state.clone();
+            state[PUBLIC + n / 16] ^= 1 << (n % 16);
+            self.plays(&mut state, &random_record(random));
+        }
     }
 }
 
 fn records(case: &Case) -> impl Iterator<Item = &Record> {
-    case.allowed.iter().chain(&case.denied).chain(&case.grants)
+    let questions = case.allowed.iter().chain(&case.denied);
+    questions.chain(&case.grants).chain(&case.publications)
 }
 
 /// Compares the engines on random histories and on every case. Panics where they differ.

@@ -33,14 +33,15 @@ fn main() {
         cases.len()
     );
     println!(
-        "refusals 0 to 13 given: {:?}, verdict 1: {}",
+        "refusals 0 to 14 given: {:?}, verdict 1: {}",
         checked.refusals, checked.verdicts
     );
 
-    let operations: [(&str, Records); 3] = [
+    let operations: [(&str, Records); 4] = [
         ("kind 21, verdict 1", |case| &case.allowed),
         ("kind 21, verdict 0", |case| &case.denied),
         ("grant and ungrant", |case| &case.grants),
+        ("publish and unpublish", |case| &case.publications),
     ];
     let mut tables: Vec<Vec<Task>> = operations
         .iter()

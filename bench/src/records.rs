@@ -21,6 +21,8 @@ pub const ATTACH: u16 = 15;
 pub const OPEN: u16 = 17;
 pub const ACTIVATE: u16 = 19;
 pub const MAY_USE: u16 = 21;
+pub const PUBLISH: u16 = 22;
+pub const UNPUBLISH: u16 = 23;
 
 /// A record in its bytes.
 pub fn record(kind: u16, caller: u8, arguments: &[u8]) -> Record {
@@ -46,12 +48,12 @@ pub fn random_record(random: &mut Random) -> Record {
     if random.once_in(64) {
         return (0..random.below(12)).map(|_| random.below(24)).collect();
     }
-    let mut kind = 1 + u16::from(random.below(21));
+    let mut kind = 1 + u16::from(random.below(23));
     if (kind == STRIKE || kind == WITHDRAW) && !random.once_in(16) {
         kind = MAY_USE;
     }
-    // Removing a user, a role or a permission: half as often as adding one.
-    if matches!(kind, 6 | 8 | 10) && random.once_in(2) {
+    // Removing a user, a role or a permission: half as often as adding one; so unpublishing.
+    if matches!(kind, 6 | 8 | 10 | UNPUBLISH) && random.once_in(2) {
         kind -= 1;
     }
     let mut caller = if kind <= 2 {

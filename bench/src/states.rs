@@ -5,13 +5,14 @@ use crate::random::Random;
 use crate::records::*;
 use crate::words::WORDS;
 
-/// A state and what is asked on it. Each list is played in turn; grants and their withdrawals alternate.
+/// A state and what is asked on it. Each list is played in turn; the record after a grant or a publication takes it back.
 pub struct Case {
     pub name: &'static str,
     pub state: Vec<u16>,
     pub allowed: Vec<Record>,
     pub denied: Vec<Record>,
     pub grants: Vec<Record>,
+    pub publications: Vec<Record>,
 }
 
 /// A state that grows record by record.
@@ -26,9 +27,14 @@ impl Builder {
         Builder { state }
     }
 
-    /// Whether the call is accepted.
+    /// Whether the call is accepted. A private role that it is refused for is published, and the call made again.
     fn tries(&mut self, kind: u16, caller: u8, arguments: &[u8]) -> bool {
-        let answer = library::call(&mut self.state, &record(kind, caller, arguments));
+        let call = record(kind, caller, arguments);
+        let mut answer = library::call(&mut self.state, &call);
+        if answer == 14 {
+            self.plays(PUBLISH, arguments[1], &[arguments[2]]);
+            answer = library::call(&mut self.state, &call);
+        }
         matches!(answer, 0 | 65536)
     }
 
@@ -46,6 +52,20 @@ impl Builder {
         }
     }
 
+    /// Private roles, at most 32, each published and unpublished. No other issuer uses them, so nothing is cleared.
+    fn publications(&mut self) -> Vec<Record> {
+        let mut publications = vec![];
+        for (i, r) in (0..=255).map(|n| (n / 16, n % 16)) {
+            if publications.len() < 64 && self.tries(PUBLISH, i, &[r]) {
+                self.plays(UNPUBLISH, i, &[r]);
+                publications.push(record(PUBLISH, i, &[r]));
+                publications.push(record(UNPUBLISH, i, &[r]));
+            }
+        }
+        assert!(!publications.is_empty(), "no role is private");
+        publications
+    }
+
     /// The verdict of kind 21.
     fn may_use(&mut self, j: u8, p: u8, i: u8, s: u8) -> bool {
         library::call(&mut self.state, &record(MAY_USE, j, &[p, i, s])) == 65536
@@ -60,12 +80,14 @@ pub fn empty() -> Case {
     builder.plays(OPEN, 0, &[0, 0]);
     builder.plays(ACTIVATE, 0, &[0, 0]);
     builder.plays(GRANT, 0, &[0, 0, 0]);
+    let publications = builder.publications();
     Case {
         name: "empty",
         state: builder.state,
         allowed: vec![record(MAY_USE, 0, &[0, 0, 0])],
         denied: vec![record(MAY_USE, 0, &[1, 0, 0])],
         grants: vec![record(GRANT, 0, &[1, 0, 0]), record(UNGRANT, 0, &[1, 0, 0])],
+        publications,
     }
 }
 
@@ -156,7 +178,7 @@ fn random_link(size: &Size, own: u8, random: &mut Random) -> (u8, [u8; 3]) {
     (caller, [x, i, random.below(size.roles)])
 }
 
-/// Random questions and grants on a random state.
+/// Random questions and grants on a random state, and publications of what is private then.
 fn asked(name: &'static str, mut builder: Builder, size: &Size, random: &mut Random) -> Case {
     let (mut allowed, mut denied, mut grants) = (vec![], vec![], vec![]);
     while allowed.len() < 32 || denied.len() < 32 {
@@ -179,12 +201,14 @@ fn asked(name: &'static str, mut builder: Builder, size: &Size, random: &mut Ran
             grants.push(record(UNGRANT, caller, &arguments));
         }
     }
+    let publications = builder.publications();
     Case {
         name,
         state: builder.state,
         allowed,
         denied,
         grants,
+        publications,
     }
 }
 
@@ -236,6 +260,7 @@ fn chain(name: &'static str, roles: Vec<u8>) -> Case {
     let j = last / 16;
     builder.plays(GRANT, j, &[0, j, last % 16]);
     builder.plays(GRANT, j, &[1, above / 16, above % 16]);
+    let publications = builder.publications();
     Case {
         name,
         state: builder.state,
@@ -248,5 +273,6 @@ fn chain(name: &'static str, roles: Vec<u8>) -> Case {
             record(GRANT, j, &[2, j, last % 16]),
             record(UNGRANT, j, &[2, j, last % 16]),
         ],
+        publications,
     }
 }

@@ -1,11 +1,11 @@
 //! A plain engine on the words of a state, with the same answers and effects as the library.
-//! It has the checks of document 01 and no proofs.
+//! It has the checks of document 01 and of Card 1, and no proofs.
 
 mod effects;
 mod law;
 mod roles;
 
-pub const WORDS: usize = 9025;
+pub const WORDS: usize = 9041;
 pub type State = [u16; WORDS];
 
 // Where the words stand.
@@ -18,6 +18,7 @@ const HELD: usize = 65;
 const GRANTS: usize = 321;
 const ATTACHMENTS: usize = 4417;
 const SESSIONS: usize = 8513;
+pub const PUBLIC: usize = 9025;
 
 // The user of a closed session.
 const CLOSED: u16 = 65535;
@@ -54,7 +55,7 @@ fn decode(record: &[u8]) -> Option<Call> {
     };
     let kind = u16::from_le_bytes([*kind_low, *kind_high]);
     let count = match kind {
-        1..=10 | 18 => 1,
+        1..=10 | 18 | 22 | 23 => 1,
         11 | 12 | 17 | 19 | 20 => 2,
         13..=16 | 21 => 3,
         _ => return None,
@@ -73,7 +74,7 @@ fn decode(record: &[u8]) -> Option<Call> {
     })
 }
 
-/// Refusals 4 to 13 of a call on a lawful state, or 0.
+/// Refusals 4 to 14 of a call on a lawful state, or 0.
 fn refusal(state: &State, call: &Call) -> u16 {
     let Call { kind, caller, .. } = *call;
     let [x, y, z] = call.arguments;
@@ -106,6 +107,8 @@ fn refusal(state: &State, call: &Call) -> u16 {
         17 => unless(state[session(caller, x)] == CLOSED, 12),
         18 => unless(state[session(caller, x)] != CLOSED, 10),
         19 | 20 => activating_refusal(state, call),
+        22 | 23 if !has(state[ROLES + caller], x) => 10,
+        22 | 23 => unless(has(state[PUBLIC + caller], x) != (kind == 22), 12),
         _ => 0,
     }
 }
@@ -118,7 +121,7 @@ fn unless(allowed: bool, refusal: u16) -> u16 {
     }
 }
 
-/// Refusals 7 to 13 of kinds 13 to 16: an own permission or role, and a role i#r.
+/// Refusals 7 to 14 of kinds 13 to 16: an own permission or role, and a role i#r.
 fn linking_refusal(state: &State, call: &Call) -> u16 {
     let Call { kind, caller, .. } = *call;
     let [own, i, r] = call.arguments;
@@ -135,6 +138,9 @@ fn linking_refusal(state: &State, call: &Call) -> u16 {
     }
     if !has(present, own) || !has(state[ROLES + i], r) {
         return 10;
+    }
+    if i != caller && !has(state[PUBLIC + i], r) {
+        return 14;
     }
     if has(state[row(region, caller, own) + i], r) == (kind % 2 == 1) {
         return 12;
@@ -171,7 +177,7 @@ pub fn start(state: &mut [u16]) -> u64 {
         return answer(1, 0);
     }
     state.fill(0);
-    for pair in state[SESSIONS..].chunks_exact_mut(2) {
+    for pair in state[SESSIONS..PUBLIC].chunks_exact_mut(2) {
         pair[0] = CLOSED;
     }
     answer(0, 0)

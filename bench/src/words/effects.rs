@@ -1,7 +1,7 @@
 //! What an accepted call changes, cascades included.
 
 use super::{held, row, session, Call, State, ATTACHMENTS, CLOSED, ENROLLED, GRANTS};
-use super::{PERMISSIONS, ROLES, SESSIONS, TRUST, USERS};
+use super::{PERMISSIONS, PUBLIC, ROLES, SESSIONS, TRUST, USERS};
 
 pub fn change(state: &mut State, call: &Call) {
     let c = call.caller;
@@ -15,8 +15,7 @@ pub fn change(state: &mut State, call: &Call) {
         3 => state[TRUST + c] |= 1 << x,
         4 => {
             state[TRUST + c] &= !(1 << x);
-            mask_column(state, row(GRANTS, x, 0) + c, 16, 0);
-            mask_column(state, row(ATTACHMENTS, x, 0) + c, 16, 0);
+            mask_links(state, x, c, 0);
         }
         5 => state[USERS + c] |= 1 << x,
         6 => {
@@ -52,6 +51,8 @@ pub fn change(state: &mut State, call: &Call) {
         18 => state[session(c, x)..][..2].copy_from_slice(&[CLOSED, 0]),
         19 => state[session(c, x) + 1] |= 1 << y,
         20 => state[session(c, x) + 1] &= !(1 << y),
+        22 => state[PUBLIC + c] |= 1 << x,
+        23 => unpublish(state, c, x),
         _ => {}
     }
 }
@@ -68,6 +69,12 @@ fn mask_column(state: &mut State, from: usize, count: usize, mask: u16) {
     }
 }
 
+/// Keeps only the roles of i that are bits of the mask in the grants and attachments of j.
+fn mask_links(state: &mut State, j: usize, i: usize, mask: u16) {
+    mask_column(state, row(GRANTS, j, 0) + i, 16, mask);
+    mask_column(state, row(ATTACHMENTS, j, 0) + i, 16, mask);
+}
+
 /// Keeps only the roles of i that are bits of the mask in the grants and attachments of all.
 fn mask_roles(state: &mut State, i: usize, mask: u16) {
     mask_column(state, GRANTS + i, 256, mask);
@@ -77,6 +84,7 @@ fn mask_roles(state: &mut State, i: usize, mask: u16) {
 fn remove_role(state: &mut State, i: usize, r: usize) {
     let mask = !(1 << r);
     state[ROLES + i] &= mask;
+    state[PUBLIC + i] &= mask;
     for word in &mut state[held(i, 0)..][..16] {
         *word &= mask;
     }
@@ -87,11 +95,21 @@ fn remove_role(state: &mut State, i: usize, r: usize) {
     mask_roles(state, i, mask);
 }
 
+/// The grants and attachments of others that used the role go; those of i itself stay.
+fn unpublish(state: &mut State, i: usize, r: usize) {
+    let mask = !(1 << r);
+    state[PUBLIC + i] &= mask;
+    for j in (0..16).filter(|&j| j != i) {
+        mask_links(state, j, i, mask);
+    }
+}
+
 fn strike(state: &mut State, i: usize) {
     state[ENROLLED] &= !(1 << i);
     mask_trust(state, i);
     state[USERS + i] = 0;
     state[ROLES + i] = 0;
+    state[PUBLIC + i] = 0;
     state[PERMISSIONS + i] = 0;
     state[held(i, 0)..][..16].fill(0);
     state[row(GRANTS, i, 0)..][..256].fill(0);

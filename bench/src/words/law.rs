@@ -3,7 +3,7 @@
 
 use super::roles::{acyclic, sixteen, Roles};
 use super::{has, held, row, session, State, ATTACHMENTS, CLOSED, ENROLLED, GRANTS, PERMISSIONS};
-use super::{ROLES, TRUST, USERS};
+use super::{PUBLIC, ROLES, TRUST, USERS};
 
 pub fn lawful(state: &State) -> bool {
     (0..16).all(|i| {
@@ -22,14 +22,16 @@ fn only_if(test: bool, word: u16) -> u16 {
     }
 }
 
-/// Trust, users, roles and permissions of issuer i.
+/// Trust, users, roles, public roles and permissions of issuer i.
 fn owned_stray(state: &State, i: usize) -> u16 {
     let enrolled = state[ENROLLED];
     let trust = state[TRUST + i];
+    let roles = state[ROLES + i];
+    let public = state[PUBLIC + i];
     if has(enrolled, i) {
-        trust & !enrolled | !trust & 1 << i
+        trust & !enrolled | !trust & 1 << i | public & !roles
     } else {
-        trust | state[USERS + i] | state[ROLES + i] | state[PERMISSIONS + i]
+        trust | state[USERS + i] | roles | public | state[PERMISSIONS + i]
     }
 }
 
@@ -45,9 +47,10 @@ fn held_stray(state: &State, i: usize) -> u16 {
 
 /// Whether grants of j's permissions and attachments of j's roles stand only where they may.
 fn links_lawful(state: &State, j: usize) -> bool {
-    // The present roles of the issuers that trust j.
-    let allowed: [u16; 16] =
-        std::array::from_fn(|i| only_if(has(state[TRUST + i], j), state[ROLES + i]));
+    // The public roles of the issuers that trust j, and all of its own.
+    let mut allowed: [u16; 16] =
+        std::array::from_fn(|i| only_if(has(state[TRUST + i], j), state[PUBLIC + i]));
+    allowed[j] = state[ROLES + j];
     let allowed = Roles::read(&allowed);
     let mut stray = Roles::default();
     for (region, present) in [
