@@ -9,8 +9,9 @@
    bytes, likewise), the caller (1 byte; 16 is the operator) and its arguments (1 byte each).
 
    An answer is one number: the refusal in bits 0 to 15, the verdict in bits 16 to 31, and 0 above.
-   The refusal is 0 where the call was accepted, else the number of the first cause, 1 to 13. The
-   verdict is 1 where kind 21 was accepted and the session may use the permission, else 0.
+   The refusal is 0 where the call was accepted, else the number of the first cause, 1 to 14; they
+   are tried from 1 upwards, but 14 between 10 and 11. The verdict is 1 where kind 21 was accepted
+   and the session may use the permission, else 0.
 
    What the caller owes, since nothing can test it:
    - where `words` is YERMOITU_WORDS, `state` points to so many words, aligned as uint16_t is, each
@@ -29,7 +30,7 @@
 #include <stddef.h>
 #include <stdint.h>
 
-#define YERMOITU_WORDS 9025
+#define YERMOITU_WORDS 9041
 
 /* The two numbers of an answer. */
 #define YERMOITU_REFUSAL(answer) ((unsigned)((uint64_t)(answer) & 0xffff))

@@ -25,6 +25,7 @@ static const struct step story[] = {
     {"1 adds permission 5", {6, 0, 9, 0, 1, 5}},
     {"1 grants 5 to 0's role 2, untrusted", {8, 0, 13, 0, 1, 5, 0, 2}},
     {"0 trusts 1", {6, 0, 3, 0, 0, 1}},
+    {"0 publishes role 2", {6, 0, 22, 0, 0, 2}},
     {"1 grants 5 to 0's role 2", {8, 0, 13, 0, 1, 5, 0, 2}},
     {"may 0's session 4 use 5?", {8, 0, 21, 0, 1, 5, 0, 4}},
     {"0 withdraws its trust in 1", {6, 0, 4, 0, 0, 1}},

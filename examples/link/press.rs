@@ -24,9 +24,9 @@ fn show(says: &str, answer: u64) {
 }
 
 fn main() {
-    let mut state = vec![0; 9025];
+    let mut state = vec![0; 9041];
     show("start", start(&mut state));
-    let story: [(&str, &[u8]); 14] = [
+    let story: [(&str, &[u8]); 15] = [
         ("the operator enrols 0", &[6, 0, 1, 0, 16, 0]),
         ("the operator enrols 1", &[6, 0, 1, 0, 16, 1]),
         ("0 adds role 2", &[6, 0, 7, 0, 0, 2]),
@@ -37,6 +37,7 @@ fn main() {
         ("1 adds permission 5", &[6, 0, 9, 0, 1, 5]),
         ("1 grants 5 to 0's role 2, untrusted", &[8, 0, 13, 0, 1, 5, 0, 2]),
         ("0 trusts 1", &[6, 0, 3, 0, 0, 1]),
+        ("0 publishes role 2", &[6, 0, 22, 0, 0, 2]),
         ("1 grants 5 to 0's role 2", &[8, 0, 13, 0, 1, 5, 0, 2]),
         ("may 0's session 4 use 5?", &[8, 0, 21, 0, 1, 5, 0, 4]),
         ("0 withdraws its trust in 1", &[6, 0, 4, 0, 0, 1]),
