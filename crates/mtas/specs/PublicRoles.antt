@@ -38,7 +38,7 @@ pub record PublicRoles : Type 0 where
   -- who can use i#r: i itself, and where it is public those whom i trusts
   pub can-use : (ws b : List ℕ) {c i r : ℕ} {k : Call} {own : Fact} → LawfulWords ws → LinksTo c i r k own → decode b ≡ request c k
       → (monitor ws b) .answer .refusal ≡ 0 → (c ≡ i) ⊎ (((view ws) .stands (trusts i c) ≡ true) × ((view ws) .stands (public i r) ≡ true))
-  -- refusal 14, 'role or senior not public across estates .. directly after 10': there, and nowhere else
+  -- of kinds 13 to 16, refusal 14 is given exactly then: 'role or senior not public across estates', 'directly after 10'
   pub private-iff : (ws b : List ℕ) {c i r : ℕ} {k : Call} {own : Fact} → LawfulWords ws → LinksTo c i r k own → decode b ≡ request c k
       → ((monitor ws b) .answer .refusal ≡ 14) ↔ Indoors (view ws) c i r k own
   -- 'a role starts private'
