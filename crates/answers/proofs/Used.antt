@@ -26,7 +26,7 @@ use Rattle.mtas.specs.Answer.{leads-to, may-use, decides-on}
 use Rattle.mtas.specs.Layout.{holders, active-roles, address, read, view}
 use Rattle.mtas.specs.LawTest.{LawfulWords}
 use Rattle.mtas.proofs.Facts.{none-above-15}
-use Rattle.mtas.proofs.Law.{attachments-numbered}
+use Rattle.mtas.proofs.Authorized.{attachments-numbered}
 use Rattle.mtas.proofs.Decision.{leads-to-sound, leads-to-complete, holders-numbered}
 use Rattle.mtas.proofs.Words.{view-says, sound-words, contents-view}
 use Rattle.hierarchy.specs.Links.{among, Reaching, ReachesInto}

@@ -23,6 +23,7 @@ fn applies(state: &[u16], guard: Guard) -> bool
         Guard::Present(_, f) => facts::stands(state, f),
         Guard::Wrong(_, b) => b,
         Guard::Reached(_, c, q, i, r) => walks::reaches(state, c, q, i, r),
+        Guard::Unauthorized(_, i, u, r) => !sessions::is_authorized(state, i, u, r),
     }
 }
 
@@ -35,6 +36,7 @@ fn cause(guard: Guard) -> u16
         Guard::Present(n, _) => n,
         Guard::Wrong(n, _) => n,
         Guard::Reached(n, _, _, _, _) => n,
+        Guard::Unauthorized(n, _, _, _) => n,
     }
 }
 

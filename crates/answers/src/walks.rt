@@ -5,17 +5,7 @@ ghost use Rattle.mtas.specs.Law.{attachments};
 ghost use Rattle.mtas.specs.Answer.{decides-on};
 ghost use Rattle.mtas.specs.Layout.{view};
 ghost use Rattle.mtas.specs.LawTest.{LawfulWords};
-ghost use Rattle.hierarchy.specs.Links.{Reaching};
 use bits::RoleSet;
-
-// The roles that reach one of the set.
-fn reach(state: &[u16], set: RoleSet) -> RoleSet
-    requires { ⌜ LawfulWords (now state) ⌝ }
-    ensures { λ s. ⌜ Reaching (attachments (view (now (state .entry)))) (set .words) (s .words) ⌝ }
-{
-    let links = hierarchy::attachments_of(state);
-    hierarchy::above(&links, set)
-}
 
 // Whether j#q reaches i#r. Where a number-of is above 15, no role but itself does.
 pub fn reaches(state: &[u16], j: u8, q: u8, i: u8, r: u8) -> bool
@@ -25,7 +15,8 @@ pub fn reaches(state: &[u16], j: u8, q: u8, i: u8, r: u8) -> bool
     if facts::above_15(j, q, i as u16, r) {
         return j == i && q == r;
     }
-    let found = reach(state, RoleSet::empty().add(i as usize, r));
+    let links = hierarchy::attachments_of(state);
+    let found = hierarchy::above_one(&links, i as usize, r);
     found.has(j as usize, q)
 }
 
@@ -39,7 +30,8 @@ pub fn may_use(state: &[u16], j: u8, p: u8, i: u8, s: u8) -> bool
     }
     let active = state[layout::active_roles(i, s)];
     let holders = RoleSet::row(state, layout::holders(j, p, 0));
-    let found = reach(state, holders);
+    let links = hierarchy::attachments_of(state);
+    let found = hierarchy::above(&links, holders);
     let own = found.words[i as usize];
     own & active != 0
 }

@@ -1,14 +1,17 @@
 -- The bits of packed words and of the operations on words, and that a word is determined by its bits.
 use mathlib.Core.Path.{_≡_, refl, ap, ap₂, sym, _∙_}
-use mathlib.Core.Bool.{Bool, true, false, not, _&&_, _||_}
-use Prim.Native.Nat.{ℕ, zero, suc, _+_, _-_, _*_, _/_, _%_, _^_, _<_}
+use mathlib.Core.Logic.{_⊎_, inl, inr}
+use mathlib.Core.Bool.{Bool, true, false, not, _&&_, _||_, and-false}
+use Prim.Native.Nat.{ℕ, zero, suc, _+_, _-_, _*_, _/_, _%_, _^_, _<_, _≤_}
 use native.Mathlib.Nat.{zero-div, div-one, pow-suc, one-mul}
 use native.Mathlib.Numerals.{one-add}
 use native.Mathlib.Omega.{arith}
-use lib.Bits.{bitAnd, bitOr, and-shr, and-mod, or-shr, or-mod}
+use lib.Bits.{bitAnd, bitOr, and-shr, and-mod, or-shr, or-mod, and-le-l}
 use lib.Dec.{eqb, lit<, eqb·zero-suc, eqb·suc-zero, eqb·suc-suc}
 use lib.Pow.{shr-shr, shl-exact, pow-lt}
+use borrow.Author.Tests.{eq-eqb}
 use Rattle.bits.specs.Bit.{bit, digit, pack, with-bit, without-bit}
+use Rattle.bits.proofs.Booleans.{clash, below-or-not}
 
 pub bit-0 : (n : ℕ) → bit 0 n ≡ false
 bit-0 n = ap (λ (x : ℕ). eqb (x % 2) 1) (zero-div (2 ^ n))
@@ -136,6 +139,17 @@ bit-with w n m = rw (bit-pow n m) at (bit-or w (2 ^ n) m)
 pub bit-without : (w n m : ℕ) → n < 16 → m < 16 → bit (without-bit w n) m ≡ bit w m && not (eqb n m)
 unfolding without-bit
 bit-without w n m l h = rw (bit-not 16 (2 ^ n) m (pow-lt l) h, bit-pow n m) at (bit-and w (65535 - 2 ^ n) m)
+
+-- a word is less without one of its bits
+pub without-less : (w n : ℕ) → n < 16 → bit w n ≡ true → without-bit w n < w
+unfolding without-bit
+without-less w n l h = go (below-or-not (without-bit w n) w)
+  where
+    go : (without-bit w n < w) ⊎ (w ≤ without-bit w n) → without-bit w n < w
+    go (inl x) = x
+    go (inr x) =
+        let e : without-bit w n ≡ w = omega (arith, and-le-l w (65535 - 2 ^ n)) in
+        absurd (clash h (ap (λ y. bit y n) (sym e) ∙ bit-without w n n l l ∙ rw (eq-eqb n n refl) (and-false (bit w n))))
 
 -- the code's `1 << n`
 pub shift-one : (n : ℕ) → n < 16 → 1 * 2 ^ n % 65536 ≡ 2 ^ n

@@ -1,7 +1,7 @@
 -- The bits gathered from several words: none are found exactly where no word has any.
 use mathlib.Core.Path.{_≡_, refl, ap₂, sym, _∙_}
 use mathlib.Core.Logic.{_↔_, _⊎_, inl, inr}
-use mathlib.Core.Bool.{Bool, true, false, not, _&&_}
+use mathlib.Core.Bool.{Bool, true, false, not, _&&_, _||_}
 use Prim.Native.Nat.{ℕ, zero, suc, _+_, _-_, _<_, _≤_}
 use native.Mathlib.Numerals.{add-one}
 use native.Mathlib.Omega.{arith}
@@ -9,9 +9,9 @@ use lib.Bits.{bitAnd, bitOr, or-add-and, and-le-l, and-le-r}
 use Rattle.bits.specs.Below.{any-below}
 use Rattle.bits.specs.Bit.{bit}
 use Rattle.bits.specs.Gather.{gather}
-use Rattle.bits.proofs.Bit.{bit-0, bit-and, bit-not, word-ext}
+use Rattle.bits.proofs.Bit.{bit-0, bit-and, bit-or, bit-not, word-ext}
 use Rattle.bits.proofs.Below.{any-intro, any-both-elim}
-use Rattle.bits.proofs.Booleans.{clash, untrue, below-or-not, and-intro, and-not}
+use Rattle.bits.proofs.Booleans.{clash, untrue, below-or-not, and-intro, and-not, or-left, or-right}
 
 -- one word more
 pub gather-more : (t : ℕ) (f : ℕ → ℕ) {found w : ℕ} → found ≡ gather t f → w ≡ f t → bitOr found w ≡ gather (t + 1) f
@@ -22,6 +22,16 @@ pub gather-ext : (n : ℕ) (f g : ℕ → ℕ) → ((k : ℕ) → k < n → f k 
 unfolding gather
 gather-ext zero f g h = refl
 gather-ext (suc n) f g h = ap₂ bitOr (gather-ext n f g (λ k l. h k (omega arith))) (h n (omega arith))
+
+-- a bit of one of the words is gathered
+pub gather-has : (n : ℕ) (f : ℕ → ℕ) (k m : ℕ) → k < n → bit (f k) m ≡ true → bit (gather n f) m ≡ true
+unfolding gather
+gather-has zero f k m l h = absurd (omega arith)
+gather-has (suc n) f k m l h = bit-or (gather n f) (f n) m ∙ go (below-or-not k n) (gather-has n f k m)
+  where
+    go : (k < n) ⊎ (n ≤ k) → (k < n → bit (f k) m ≡ true → bit (gather n f) m ≡ true) → bit (gather n f) m || bit (f n) m ≡ true
+    go (inl j) rec = or-left _ _ (rec j h)
+    go (inr j) rec = let e : k ≡ n = omega arith in or-right (bit (gather n f) m) _ (rw e at h)
 
 pub or-zero : (a b : ℕ) → (bitOr a b ≡ 0) ↔ ((a ≡ 0) × (b ≡ 0))
 or-zero a b = (

@@ -1,26 +1,28 @@
 -- An accepted call's effect may be done, and leaves what the model says.
 use mathlib.Core.Path.{_≡_, refl, ap, sym, subst, _∙_}
 use mathlib.Core.List.{List, [], _∷_}
-use mathlib.Core.Bool.{true, false, decide}
-use Prim.Native.Nat.{ℕ}
+use mathlib.Core.Bool.{Bool, true, false, not, _||_, decide}
+use Prim.Native.Nat.{ℕ, _<_}
 use native.Mathlib.Decide.{ℕ-discrete}
 use lib.Dec.{eqb}
+use lib.ListN.{length, getD}
 use borrow.Author.Tests.{eqb-false}
 use Rattle.bits.proofs.Booleans.{clash, untrue}
 use Rattle.mtas.specs.Fact.{Fact, enrolled, trusts, opened, same, numbers, Below16}
 use Rattle.mtas.specs.Needs.{needs}
-use Rattle.mtas.specs.State.{State, user-of}
+use Rattle.mtas.specs.State.{State, cut, user-of}
 use Rattle.mtas.specs.Law.{Lawful, In, here, there}
 use Rattle.mtas.specs.Call.{Call, AddIssuer, RemoveIssuer, AssignTrust, RevokeTrust, AddUser, RemoveUser, AddRole, RemoveRole, AddPerm, RemovePerm, AssignUser, RevokeUser, AssignPerm, RevokePerm, AssignRH, RevokeRH, CreateSession, DeleteSession, AddActiveRole, DropActiveRole, CheckAccess, PublishRole, UnpublishRole}
 use Rattle.mtas.specs.Rule as model
 use Rattle.mtas.specs.Answer as answers
-use Rattle.mtas.specs.Layout.{Word, in-session, cell, bit-while, place, encode, view}
+use Rattle.mtas.specs.Layout.{Word, in-session, cell, bit-while, place, state-length, encode, view}
 use Rattle.mtas.proofs.Cells.{Says, said-there, placed}
 use Rattle.mtas.proofs.Facts.{All, same-true, put-new, put-more}
 use Rattle.mtas.proofs.Guards.{Passed, passed}
+use Rattle.mtas.proofs.Law.{rooted, cut-rooted}
 use Rattle.mtas.proofs.Sessions.{closed}
 use Rattle.mtas.proofs.Step.{leaves, next-lawful}
-use Rattle.mtas.proofs.Words.{words-of, encode-view, contents-view, sound-words}
+use Rattle.mtas.proofs.Words.{encode-length, words-of, encode-view, contents-view, sound-words}
 use Rattle.facts.specs.declared.Fact.{Fact as Code}
 use Rattle.facts.specs.Table.{fact-of}
 use Rattle.rule.specs.declared.Effect.{Effect}
@@ -28,7 +30,11 @@ use Rattle.rule.specs.declared.Effect.the-variants.{Enrols, Puts, Cuts, Decides
 use Rattle.rule.specs.Table.{effect-of, IsEffect}
 use Rattle.effects.specs.Effect.{Accepted, Left}
 use Rattle.effects.specs.Put.{Put}
-use Rattle.effects.specs.Cut.{Apart, MayCut, Cut}
+use Rattle.effects.specs.Cut.{Apart, MayCut, Cut, is-holding, Breaking}
+use Rattle.sessions.specs.Lesser.{Plain}
+use Rattle.sessions.specs.Settled.{Settled}
+use Rattle.effects.proofs.Plain.{plain-settled}
+use Rattle.effects.proofs.Settling.{settled-words}
 use Rattle.effects.proofs.Putting.{Hold, Ready, put-holds}
 
 -- each fact that is put may be written, and the one that is cut stands
@@ -70,7 +76,7 @@ module _ (st : State) (L : Lawful st) where
   acts c (RevokePerm x i r) p = (p .own .1 .1 .1 .1 .1 .0, λ i. refl)
   acts c (AssignRH q i r) p = (tt, tt)
   acts c (RevokeRH q i r) p = (p .own .1 .1 .1 .1 .1 .0, λ i. refl)
-  acts c (CreateSession s u) p = let n = closed st L c s (p .own .1 .0) in ((n, idle c s n), tt)
+  acts c (CreateSession s u) p = let n = closed st (rooted L) c s (p .own .1 .0) in ((n, idle c s n), tt)
   acts c (DeleteSession s) p = (p .own .0, λ i. refl)
   acts c (AddActiveRole s r) p = (refl, tt)
   acts c (DropActiveRole s r) p = (p .own .1 .1 .0, λ i. refl)
@@ -90,6 +96,13 @@ module _ {ws : List ℕ} {c : ℕ} {k : Call} {x y : Effect} (a : Accepted ws c 
 
   left : {vs : List ℕ} → vs ≡ encode (answers.change (effect-of y) (view ws)) → Left ws c k vs
   left h = record { words = h ∙ ap encode (sym next-is) }
+
+neither : (p q : Bool) → not p || q ≡ false → (p ≡ true) × (q ≡ false)
+neither true q h = (refl, h)
+neither false q h = absurd (clash refl h)
+
+pub cut-long : {ws vs : List ℕ} {f : Fact} → Cut f ws vs → length vs ≡ state-length
+cut-long {ws} {f = f} p = rw (p .words) (encode-length (cut f (view ws)))
 
 module _ {ws : List ℕ} {c : ℕ} {k : Call} {x : Effect} (a : Accepted ws c k) (e : IsEffect (view ws) c k x) where
   holds-now : Hold (view ws) ws
@@ -113,8 +126,14 @@ module _ {ws : List ℕ} {c : ℕ} {k : Call} {x : Effect} (a : Accepted ws c k)
   pub may-cut : {f : Code} → x ≡ Cuts f → MayCut (fact-of f) ws
   may-cut {f} d = record { lawful = a .lawful; numbered = a .lawful .lawful .numbered (fact-of f) (acted a e d .0); apart = acted a e d .1 }
 
-  pub has-cut : {f : Code} {vs : List ℕ} → x ≡ Cuts f → Cut (fact-of f) ws vs → Left ws c k vs
-  has-cut d p = left a e d (p .words)
+  -- what the cut left is settled
+  pub has-cut : {f : Code} {vs us : List ℕ} → x ≡ Cuts f → Cut (fact-of f) ws vs → Settled vs us → ((k : ℕ) → getD us k 0 < 65536) → Left ws c k us
+  has-cut {f} {vs} {us} d p z wide =
+      left a e d (settled-words (cut (fact-of f) (view ws)) (cut-rooted (view ws) (a .lawful .lawful) (fact-of f)) (subst (λ l. Settled l us) (p .words) z) wide)
+
+  -- or was settled already
+  pub has-kept : {plain b : Bool} {f : Code} {vs : List ℕ} → (plain ≡ true → Plain ws) → x ≡ Cuts f → Cut (fact-of f) ws vs → Breaking plain (fact-of f) b → b ≡ false → Left ws c k vs
+  has-kept {plain} {f = f} held d p q t = let (r, n) = neither plain (is-holding (fact-of f)) (sym (q .is) ∙ t) in left a e d (p .words ∙ ap encode (sym (plain-settled ws (a .lawful) (held r) (fact-of f) n)))
 
   pub has-decided : {p i s : ℕ} → x ≡ Decides p i s → Left ws c k ws
   has-decided d = left a e d (sym (encode-view ws (a .lawful)))

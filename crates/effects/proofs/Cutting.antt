@@ -20,8 +20,7 @@ use Rattle.mtas.specs.Layout.{Word, session-user, active-roles, Cell, sixteen, 
 use Rattle.mtas.proofs.Address.{word-numbers, word-at-address}
 use Rattle.mtas.proofs.Cells.{Placed, placed, place-numbered}
 use Rattle.mtas.proofs.Facts.{all-in, roots, cut-gone, cut-other, cut-old}
-use Rattle.mtas.proofs.Law.{cut-lawful}
-use Rattle.mtas.proofs.Sessions.{user-cases, user-passes, user-is}
+use Rattle.mtas.proofs.Sessions.{user-cases, user-passes, user-finds}
 use Rattle.mtas.proofs.Words.{words-of, view-says, view-numbered, view-opened, sound-words, word-fits}
 use Rattle.effects.specs.declared.strips.Strip.{Strip}
 use Rattle.effects.specs.declared.sweep.Sweep.{Sweep}
@@ -167,8 +166,8 @@ module _ {ws ws₂ vs : List ℕ} {f : Fact} (M : MayCut f ws) (x : Kept (strips
         go : (b : Bool) → shut ≡ b → (u < 16) ⊎ (u ≡ 65535) → user-of gone i s ≡ cond b 65535 u
         go true e d = none-open (λ v h. clash h (cut-gone f st (opened i s v) (rw (its-own v h .0) (shut-relies e))))
         go false e (inl l) =
-            user-is gone (cut-lawful st (M .lawful .lawful) f) i s u
-            (cut-other f st (opened i s u) (λ r. clash (closes-shut (all-in (λ g. Apart g → Closes i s u g) (session-goes li ls) r (M .apart))) e) ∙ opened-now l)
+            its-own (user-of gone i s) (user-finds gone i s u l
+            (cut-other f st (opened i s u) (λ r. clash (closes-shut (all-in (λ g. Apart g → Closes i s u g) (session-goes li ls) r (M .apart))) e) ∙ opened-now l)) .0
         go false e (inr q) = none-open (λ v h. let o = its-own v h in omega arith) ∙ sym q
 
     its-user-word : read vs (session-user i s) ≡ user-of gone i s

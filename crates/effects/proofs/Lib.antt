@@ -7,3 +7,5 @@ pub mod Swept
 pub mod Cutting
 pub mod Putting
 pub mod Acts
+mod Settling
+mod Plain

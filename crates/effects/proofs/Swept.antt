@@ -55,10 +55,7 @@ module _ {i s u : ℕ} (li : i < 16) (ls : s < 16) where
       dropping-goes refl (λ n l q. rw (e, only-bit (omega arith) n l q) (search (here, there)))
   goes (permission j p) h m = let a = its-range _ m in absurd (omega arith)
   goes (public j r) h m = let a = its-range _ m in absurd (omega arith)
-  goes (holds j v r) h m =
-      let a = its-range _ m in
-      let e : j ≡ i = omega arith in
-      dropping-goes refl (λ n l q. rw (e, ← eqb-true u v (m .is-meant), only-bit (omega arith) n l q) (there (there here)))
+  goes (holds j v r) h m = let a = its-range _ m in absurd (omega arith)
   goes (granted j p k r) h m = let a = its-range _ m in absurd (omega arith)
   goes (attached j q k r) h m = let a = its-range _ m in absurd (omega arith)
   goes (opened j t v) h m =
@@ -94,13 +91,10 @@ module _ {i s u : ℕ} (li : i < 16) (ls : s < 16) where
     (
       λ a. with-session (session-goes .0 a),
       (
-        λ _. alone (meets-issuer refl refl (eq-eqb u u refl)) refl (bit-dropped l),
+        λ a. with-session (session-goes .1 .0 a),
         (
-          λ a. with-session (session-goes .1 .0 a),
-          (
-            λ _. alone (meets-issuer refl refl refl) refl (bit-dropped l),
-            (λ a. with-session (session-goes .1 .1 .0 a), (λ a. absurd (clash (same-refl (trusts i i)) (a i)), tt)),
-          ),
+          λ _. alone (meets-issuer refl refl refl) refl (bit-dropped l),
+          (λ a. with-session (session-goes .1 .1 .0 a), (λ a. absurd (clash (same-refl (trusts i i)) (a i)), tt)),
         ),
       ),
     ),

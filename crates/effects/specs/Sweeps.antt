@@ -19,7 +19,7 @@ dropping m n a u r = record { first = m; count = n; anyone = a; user = u; close 
 abbrev pub no-sweep : Sweep
 no-sweep = closing 0 0 true 0
 
--- what a fact and all that needs it are to sessions
+-- what a fact and all that needs it are to sessions; what loses its reach is dropped by settling
 abbrev pub sweep-of : Fact → Sweep
 sweep-of (enrolled i) = closing (16 * i) 16 true 0
 sweep-of (trusts i j) = no-sweep
@@ -27,7 +27,7 @@ sweep-of (user i u) = closing (16 * i) 16 false u
 sweep-of (role i r) = dropping (16 * i) 16 true 0 r
 sweep-of (permission i p) = no-sweep
 sweep-of (public i r) = no-sweep
-sweep-of (holds i u r) = dropping (16 * i) 16 false u r
+sweep-of (holds i u r) = no-sweep
 sweep-of (granted j p i r) = no-sweep
 sweep-of (attached j q i r) = no-sweep
 sweep-of (opened i s u) = closing (16 * i + s) 1 false u

@@ -1,14 +1,16 @@
-// What an accepted call does to the lent words: facts are put, or one is cut with all that needs it.
+// What an accepted call does to the lent words: facts are put, or one is cut with all that needs it, and what is left is settled.
 ghost use mathlib.Core.Path.{_≡_};
+ghost use mathlib.Core.Bool.{true};
 ghost use Prim.Native.Nat.{_<_};
 ghost use lib.ListN.{length, getD, set};
 ghost use Rattle.bits.specs.Bit.{with-bit};
 ghost use Rattle.mtas.specs.Layout.{state-length};
 ghost use Rattle.record.specs.Decoded.{call-of};
+ghost use Rattle.sessions.specs.Lesser.{Plain};
 ghost use Rattle.facts.specs.Table.{fact-of};
 ghost use Rattle.effects.specs.Effect.{Accepted, Left};
 ghost use Rattle.effects.specs.Put.{Put};
-ghost use Rattle.effects.specs.Cut.{MayCut, Cut};
+ghost use Rattle.effects.specs.Cut.{MayCut, Cut, Breaking};
 use facts::Fact;
 use facts::Place;
 use record::Call;
@@ -49,8 +51,31 @@ fn cut(state: &mut [u16], fact: Fact)
     sweep::sweep_all(state, sweep::sweep_of(fact));
 }
 
-pub fn change(state: &mut [u16], caller: u8, call: Call)
-    requires { ⌜ Accepted (now state) caller (call-of call) ⌝ }
+// Whether a reach may break where the fact is cut. Where each user holds its active roles itself, only taking a role breaks one.
+fn may_break(plain: bool, fact: Fact) -> bool
+    ensures { λ b. ⌜ Breaking plain (fact-of fact) b ⌝ }
+{
+    if !plain {
+        return true;
+    }
+    match fact {
+        Fact::Enrolled(_) => false,
+        Fact::Trusts(_, _) => false,
+        Fact::User(_, _) => false,
+        Fact::Role(_, _) => false,
+        Fact::Permission(_, _) => false,
+        Fact::Public(_, _) => false,
+        Fact::Holds(_, _, _) => true,
+        Fact::Granted(_, _, _, _) => false,
+        Fact::Attached(_, _, _, _) => false,
+        Fact::Opened(_, _, _) => false,
+        Fact::Active(_, _, _, _) => false,
+    }
+}
+
+// plain: each user holds its active roles itself, as the law test found.
+pub fn change(state: &mut [u16], caller: u8, call: Call, plain: bool)
+    requires { ⌜ Accepted (now state) caller (call-of call) × (plain ≡ true → Plain (now state)) ⌝ }
     ensures { λ _. ⌜ Left (now (state .entry)) caller (call-of call) (now (state .exit)) ⌝ }
 {
     let effect = rule::effect_on(state, caller, call);
@@ -61,7 +86,12 @@ pub fn change(state: &mut [u16], caller: u8, call: Call)
             put(state, Fact::Enrolled(i));
         }
         Effect::Puts(fact) => put(state, fact),
-        Effect::Cuts(fact) => cut(state, fact),
+        Effect::Cuts(fact) => {
+            cut(state, fact);
+            if may_break(plain, fact) {
+                sessions::settle(state);
+            }
+        }
         Effect::Decides(_, _, _) => {}
     }
 }

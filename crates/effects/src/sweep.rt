@@ -61,7 +61,7 @@ pub fn sweep_of(fact: Fact) -> Sweep
         Fact::Role(i, r) => dropping(16 * (i as usize), 16, true, 0, r),
         Fact::Permission(_, _) => closing(0, 0, true, 0),
         Fact::Public(_, _) => closing(0, 0, true, 0),
-        Fact::Holds(i, u, r) => dropping(16 * (i as usize), 16, false, u, r),
+        Fact::Holds(_, _, _) => closing(0, 0, true, 0),
         Fact::Granted(_, _, _, _) => closing(0, 0, true, 0),
         Fact::Attached(_, _, _, _) => closing(0, 0, true, 0),
         Fact::Opened(i, s, u) => closing(16 * (i as usize) + s as usize, 1, false, u),

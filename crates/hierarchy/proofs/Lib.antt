@@ -5,3 +5,4 @@ mod Freed
 mod Acyclicity
 mod Slide
 mod Climbing
+mod One

@@ -7,7 +7,7 @@ use lib.ListN.{getD}
 use Rattle.bits.specs.Bit.{bit}
 use Rattle.bits.specs.RoleSet.{in-set}
 use Rattle.mtas.specs.Fact.{above-15}
-use Rattle.mtas.specs.Hierarchy.{Role, Graph, Reaches}
+use Rattle.mtas.specs.Hierarchy.{Role, _#_, Graph, Reaches, reaches}
 
 -- b is directly below a. The row of b is sixteen words, one for each issuer of a senior; no role has a number above 15.
 unfoldable pub linked : List ℕ → Graph
@@ -37,3 +37,7 @@ ReachesInto below set a = (b : Role) × (b .issuer < 16) × (b .number < 16) × 
 pub record Reaching (below : Graph) (set above : List ℕ) : Type 0 where
   pub sound : (a : Role) → a .issuer < 16 → a .number < 16 → among above a ≡ true → ReachesInto below set a
   pub complete : (a b : Role) → b .issuer < 16 → b .number < 16 → among set b ≡ true → Reaches below a b → among above a ≡ true
+
+-- the roles that reach i#r
+pub record ReachingOne (below : Graph) (i r : ℕ) (above : List ℕ) : Type 0 where
+  pub each : (j q : ℕ) → j < 16 → q < 16 → in-set above j q ≡ reaches below (j # q) (i # r)

@@ -4,7 +4,7 @@ ghost use mathlib.Core.Path.{_≡_};
 ghost use Prim.Native.Nat.{_<_};
 ghost use lib.ListN.{length, take, drop};
 ghost use Rattle.mtas.specs.Layout.{seniors-at, links-length, state-length};
-ghost use Rattle.hierarchy.specs.Links.{linked, Reaching};
+ghost use Rattle.hierarchy.specs.Links.{linked, Reaching, ReachingOne};
 ghost use Rattle.hierarchy.specs.Climbing.{BitsIn, Lifted, Climbed};
 use bits::RoleSet;
 
@@ -80,4 +80,12 @@ pub fn above(links: &[u16], set: RoleSet) -> RoleSet
         done = next.done;
     }
     seen
+}
+
+// The roles that reach i#r.
+pub fn above_one(links: &[u16], i: usize, r: u8) -> RoleSet
+    requires { ⌜ (length (now links) ≡ links-length) × (i < 16) × (r < 16) ⌝ }
+    ensures { λ s. ⌜ ReachingOne (linked (now (links .entry))) i r (s .words) ⌝ }
+{
+    above(links, RoleSet::empty().add(i, r))
 }

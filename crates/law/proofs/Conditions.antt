@@ -1,26 +1,21 @@
 -- No stray bits, said of the facts: what each kind of fact needs at first hand.
 use mathlib.Core.Path.{_≡_, refl, sym, _∙_}
 use mathlib.Core.List.{List}
-use mathlib.Core.Logic.{_↔_, _⊎_, inl, inr}
+use mathlib.Core.Logic.{_↔_}
 use mathlib.Core.Bool.{Bool, true, false, cond}
-use Prim.Native.Nat.{ℕ, _+_, _*_, _<_, _≤_}
-use native.Mathlib.Decide.{ℕ-discrete}
-use native.Mathlib.Omega.{arith}
+use Prim.Native.Nat.{ℕ, _+_, _*_, _<_}
 use lib.Bits.{bitOr}
 use lib.Dec.{eqb}
 use lib.ListN.{getD}
 use Rattle.bits.specs.Bit.{bit}
 use Rattle.bits.specs.Gather.{gather}
-use Rattle.bits.proofs.Booleans.{below-or-not}
 use Rattle.bits.proofs.Gather.{or-zero, gather-zero, stray-zero}
 use Rattle.mtas.specs.Fact.{Fact, enrolled, trusts, user, role, permission, public, holds, granted, attached}
 use Rattle.mtas.specs.Needs.{exposed}
-use Rattle.mtas.specs.Layout.{Word, address, enrolled-issuers, trusted, users, roles, permissions, held, session-user, active-roles, public-roles, holders-at, seniors-at, cell, read, says}
-use Rattle.mtas.specs.LawTest.{Fits}
+use Rattle.mtas.specs.Layout.{Word, address, enrolled-issuers, trusted, users, roles, permissions, held, public-roles, holders-at, seniors-at, read, says}
 use Rattle.mtas.proofs.Exposed.{own-exposed, other-exposed}
-use Rattle.law.specs.Stray.{outside, allowed, exposed-roles, trust-stray, present-stray, public-stray, own-stray, held-stray, rows-stray, session-stray, sessions-stray, issuer-stray}
+use Rattle.law.specs.Stray.{allowed, exposed-roles, trust-stray, present-stray, public-stray, own-stray, held-stray, rows-stray, issuer-stray}
 use Rattle.law.proofs.Inside.{inside-if, inside-if-both, none-unless, has-if}
-use Rattle.law.proofs.Sessions.{user-present, user-absent, closed, no-user}
 
 or-iff : {a b : ℕ} {A B : Type 0} → (a ≡ 0) ↔ A → (b ≡ 0) ↔ B → (bitOr a b ≡ 0) ↔ (A × B)
 or-iff {a} {b} p q = (λ e. let (x, y) = or-zero a b .0 e in (p .0 x, q .0 y), λ (x, y). or-zero a b .1 (p .1 x, q .1 y))
@@ -61,15 +56,6 @@ module _ (ws : List ℕ) where
   Ends j owned link =
       (p : ℕ) → p < 16 → (i : ℕ) → i < 16 → (r : ℕ) → r < 16 → Stated (link p i r) → Stated (owned p) × Stated (trusts i j) × Stated (exposed j i r)
 
-  -- a session is open or closed, and a closed one has no active roles; an open one's user is present and holds them
-  abbrev Session : ℕ → ℕ → Type 0
-  Session i s =
-      Fits ws (cell (session-user i s)) (read ws (session-user i s))
-      × Fits ws (cell (active-roles i s)) (read ws (active-roles i s))
-      × (read ws (session-user i s) < 16
-      → Stated (user i (read ws (session-user i s)))
-      × ((r : ℕ) → r < 16 → bit (read ws (active-roles i s)) r ≡ true → Stated (holds i (read ws (session-user i s)) r)))
-
   pub record Conditions (i : ℕ) : Type 0 where
     pub trust : Trust i
     pub itself : Itself i
@@ -80,7 +66,6 @@ module _ (ws : List ℕ) where
     pub held-by : Held i
     pub grants : Ends i (permission i) (granted i)
     pub attachments-of : Ends i (role i) (attached i)
-    pub sessions : (s : ℕ) → s < 16 → Session i s
 
   module _ (wide : (k : ℕ) → getD ws k 0 < 65536) (i : ℕ) (li : i < 16) where
     own-zero : (own-stray ws i ≡ 0) ↔ (((Trust i × Itself i) × ((Owned i (user i) × Owned i (role i)) × Owned i (permission i))) × Public i)
@@ -121,39 +106,11 @@ module _ (ws : List ℕ) where
             gather-iff _ (λ k _. gather-iff _ (λ p _.
             inside-if-both (bit present p) (bit (read ws (trusted k)) i) _ _ (wide (from + 16 * (16 * i + p) + k)) (exposed-below k (eqb i k))))
 
-    session-zero : (s : ℕ) → (session-stray ws i s ≡ 0) ↔ Session i s
-    session-zero s = (λ e. split e (below-or-not w 16), join)
-      where
-        w : ℕ
-        w = read ws (session-user i s)
-
-        a : ℕ
-        a = read ws (active-roles i s)
-
-        roles-held : (outside a (read ws (held i w)) ≡ 0) ↔ ((r : ℕ) → r < 16 → bit a r ≡ true → Stated (holds i w r))
-        roles-held = stray-zero a (read ws (held i w)) (wide (address (held i w))) (wide (address (active-roles i s)))
-
-        split : session-stray ws i s ≡ 0 → (w < 16) ⊎ (16 ≤ w) → Session i s
-        split e (inl l) = go (bit (read ws (users i)) w) refl
-          where
-            go : (b : Bool) → bit (read ws (users i)) w ≡ b → Session i s
-            go true q = (inl l, λ c. absurd (omega arith), λ _. (q, roles-held .0 (user-present ws i s l refl q refl ∙ e)))
-            go false q = absurd (let z : _≡_ {A = ℕ} 1 0 = user-absent ws i s l refl q ∙ e in omega arith)
-        split e (inr l) = go (ℕ-discrete w 65535)
-          where
-            go : Dec (w ≡ 65535) → Session i s
-            go (yes q) = (inr q, λ _. closed ws i s l q ∙ e, λ o. absurd (omega arith))
-            go (no n) = absurd (let z : _≡_ {A = ℕ} 1 0 = no-user ws i s l n ∙ e in omega arith)
-
-        join : Session i s → session-stray ws i s ≡ 0
-        join (inl l, z, o) = let (q, f) = o l in sym (user-present ws i s l refl q refl) ∙ roles-held .1 f
-        join (inr q, z, o) = sym (closed ws i s (omega arith) q) ∙ z q
-
     pub issuer-zero : (issuer-stray ws i ≡ 0) ↔ Conditions i
-    unfolding issuer-stray sessions-stray
+    unfolding issuer-stray
     issuer-zero = (
       λ e.
-          let (((((((t, o), ((u, r), p)), x), h), g), a), s) = all .0 e in
+          let ((((((t, o), ((u, r), p)), x), h), g), a) = all .0 e in
           record {
             trust = t;
             itself = o;
@@ -164,16 +121,15 @@ module _ (ws : List ℕ) where
             held-by = h;
             grants = g;
             attachments-of = a;
-            sessions = s;
           },
       λ c.
           all .1
-          (((((((c .trust, c .itself), ((c .users-of, c .roles-of), c .permissions-of)), c .public-of), c .held-by), c .grants), c .attachments-of), c .sessions),
+          ((((((c .trust, c .itself), ((c .users-of, c .roles-of), c .permissions-of)), c .public-of), c .held-by), c .grants), c .attachments-of),
     )
       where
         all : (issuer-stray ws i ≡ 0)
-            ↔ (((((((Trust i × Itself i) × ((Owned i (user i) × Owned i (role i)) × Owned i (permission i))) × Public i) × Held i)
-            × Ends i (permission i) (granted i)) × Ends i (role i) (attached i)) × ((s : ℕ) → s < 16 → Session i s))
+            ↔ ((((((Trust i × Itself i) × ((Owned i (user i) × Owned i (role i)) × Owned i (permission i))) × Public i) × Held i)
+            × Ends i (permission i) (granted i)) × Ends i (role i) (attached i))
         all =
-            or-iff (or-iff (or-iff (or-iff own-zero held-zero) (rows-zero holders-at (read ws (permissions i))))
-            (rows-zero seniors-at (read ws (roles i)))) (gather-iff (session-stray ws i) (λ s _. session-zero s))
+            or-iff (or-iff (or-iff own-zero held-zero) (rows-zero holders-at (read ws (permissions i))))
+            (rows-zero seniors-at (read ws (roles i)))

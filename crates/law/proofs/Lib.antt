@@ -4,4 +4,5 @@ pub mod Allowed
 pub mod Sessions
 pub mod Conditions
 pub mod Support
+pub mod Ordered
 pub mod Whole

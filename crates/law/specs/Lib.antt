@@ -1,2 +1,2 @@
-pub mod Supported
 pub mod Stray
+pub mod Supported

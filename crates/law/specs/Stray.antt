@@ -4,11 +4,12 @@ use mathlib.Core.Bool.{Bool, cond}
 use mathlib.Core.List.{List}
 use Prim.Native.Nat.{ℕ, _+_, _-_, _*_, _<_}
 use lib.Bits.{bitAnd, bitOr}
-use lib.Dec.{eqb, ltb}
+use lib.Dec.{eqb}
 use lib.ListN.{getD}
 use Rattle.bits.specs.Bit.{bit, with-bit}
 use Rattle.bits.specs.Gather.{gather}
-use Rattle.mtas.specs.Layout.{enrolled-issuers, trusted, users, roles, permissions, held, session-user, active-roles, public-roles, holders-at, seniors-at, read}
+use Rattle.mtas.specs.Layout.{enrolled-issuers, trusted, users, roles, permissions, held, public-roles, holders-at, seniors-at, read}
+use Rattle.sessions.specs.Lesser.{stranger, lesser}
 
 -- w where the test holds, else no bit
 abbrev pub only-if : Bool → ℕ → ℕ
@@ -71,26 +72,13 @@ link-stray ws from j present a i p = outside (getD ws (from + 16 * (16 * j + p) 
 unfoldable pub rows-stray : List ℕ → ℕ → ℕ → ℕ → (ℕ → ℕ) → ℕ
 rows-stray ws from j present a = gather 16 (λ i. gather 16 (link-stray ws from j present a i))
 
--- 'a closed session has no active role, an open one a present user and active roles that this user holds'; any other user counts as a stray bit
-unfoldable pub session-stray : List ℕ → ℕ → ℕ → ℕ
-session-stray ws i s =
-    cond (ltb (read ws (session-user i s)) 16)
-    (cond (bit (read ws (users i)) (read ws (session-user i s)))
-    (outside (read ws (active-roles i s)) (read ws (held i (read ws (session-user i s)))))
-    1)
-    (cond (eqb (read ws (session-user i s)) 65535) (read ws (active-roles i s)) 1)
-
--- the bits of a session that are not those of a closed one
-abbrev pub awake : List ℕ → ℕ → ℕ → ℕ
-awake ws i s = bitOr (65535 - read ws (session-user i s)) (read ws (active-roles i s))
-
-unfoldable pub sessions-stray : List ℕ → ℕ → ℕ
-sessions-stray ws i = gather 16 (session-stray ws i)
-
--- all that the issuer i owns
+-- all that the issuer i owns, but for its sessions
 unfoldable pub issuer-stray : List ℕ → ℕ → ℕ
 issuer-stray ws i =
-    bitOr (bitOr (bitOr (bitOr (own-stray ws i) (held-stray ws i))
+    bitOr (bitOr (bitOr (own-stray ws i) (held-stray ws i))
     (rows-stray ws holders-at i (read ws (permissions i)) (allowed ws i)))
-    (rows-stray ws seniors-at i (read ws (roles i)) (allowed ws i)))
-    (sessions-stray ws i)
+    (rows-stray ws seniors-at i (read ws (roles i)) (allowed ws i))
+
+-- what is to be looked at more closely in i's sessions: strangers, and active roles that their users don't hold
+unfoldable pub issuer-doubt : List ℕ → ℕ → ℕ
+issuer-doubt ws i = gather 16 (λ s. bitOr (stranger ws i s) (lesser ws i s))

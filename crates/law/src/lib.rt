@@ -8,8 +8,9 @@ ghost use lib.ListN.{length, getD};
 ghost use Rattle.bits.specs.Gather.{gather};
 ghost use Rattle.mtas.specs.Layout.{state-length};
 ghost use Rattle.mtas.specs.LawTest.{lawful-words};
-ghost use Rattle.law.specs.Supported.{Supported};
-ghost use Rattle.law.specs.Stray.{only-if, outside, own-stray, held-stray, OnlyIf, Trusting, RowGathered, rows-stray, session-stray, awake, sessions-stray, issuer-stray};
+ghost use Rattle.sessions.specs.Lesser.{Plain};
+ghost use Rattle.law.specs.Supported.{Surveyed};
+ghost use Rattle.law.specs.Stray.{only-if, outside, own-stray, held-stray, OnlyIf, Trusting, RowGathered, rows-stray, issuer-stray, issuer-doubt};
 
 // w where the test holds, else no bit.
 fn only_if(test: bool, w: u16) -> u16
@@ -121,55 +122,7 @@ fn stray_rows(state: &[u16], from: usize, j: usize, present: u16, allowed: bits:
     found.gather()
 }
 
-// A closed session has no active role, an open one a present user and active roles that this user holds.
-fn stray_session(state: &[u16], i: usize, s: usize) -> u16
-    requires { ⌜ (length (now state) ≡ state-length) × (i < 16) × (s < 16) ⌝ }
-    ensures { λ r. ⌜ r ≡ session-stray (now (state .entry)) i s ⌝ }
-{
-    let at = layout::SESSIONS_AT + 2 * (16 * i + s);
-    let user = state[at];
-    let active = state[at + 1];
-    if user < 16 {
-        if bits::has_bit(state[layout::USERS_AT + i], user as u8) {
-            return outside(active, state[layout::HELD_AT + 16 * i + user as usize]);
-        }
-        return 1;
-    }
-    if user == layout::NOBODY {
-        return active;
-    }
-    1
-}
-
-// The bits of i's sessions that are not those of a closed one: none where all of them are closed.
-fn awake(state: &[u16], i: usize) -> u16
-    requires { ⌜ (length (now state) ≡ state-length) × (i < 16) ⌝ }
-    ensures { λ r. ⌜ r ≡ gather 16 (awake (now (state .entry)) i) ⌝ }
-{
-    let mut found = 0u16;
-    for s in 0..16 {
-        let at = layout::SESSIONS_AT + 2 * (16 * i + s);
-        found = found | (!state[at] | state[at + 1]);
-    }
-    found
-}
-
-// The sessions of i. Most issuers have none open, and then sixteen are looked at at once.
-fn stray_sessions(state: &[u16], i: usize) -> u16
-    requires { ⌜ (length (now state) ≡ state-length) × (i < 16) ⌝ }
-    ensures { λ r. ⌜ r ≡ sessions-stray (now (state .entry)) i ⌝ }
-{
-    if awake(state, i) == 0 {
-        return 0;
-    }
-    let mut found = 0u16;
-    for s in 0..16 {
-        found = found | stray_session(state, i, s);
-    }
-    found
-}
-
-// The stray bits of the words that the issuer i owns.
+// The stray bits of the words that the issuer i owns, but for its sessions.
 fn stray_of(state: &[u16], i: usize) -> u16
     requires { ⌜ (length (now state) ≡ state-length) × (i < 16) ⌝ }
     ensures { λ r. ⌜ r ≡ issuer-stray (now (state .entry)) i ⌝ }
@@ -189,29 +142,78 @@ fn stray_of(state: &[u16], i: usize) -> u16
         state[layout::ROLES_AT + i],
         allowed,
     );
-    stray_own(state, i) | stray_held(state, i) | holders | seniors | stray_sessions(state, i)
+    stray_own(state, i) | stray_held(state, i) | holders | seniors
 }
 
-// Whether what stands has what it needs, and each session's words are an open or a closed one's.
-fn supported(state: &[u16]) -> bool
-    requires { ⌜ length (now state) ≡ state-length ⌝ }
-    ensures { λ r. ⌜ (r ≡ true) ↔ Supported (now (state .entry)) ⌝ }
+// Strangers in i's sessions, and active roles that their users don't hold. Most issuers have no session open, and then sixteen are looked at at once.
+fn doubt_of(state: &[u16], i: usize) -> u16
+    requires { ⌜ (length (now state) ≡ state-length) × (i < 16) ⌝ }
+    ensures { λ r. ⌜ r ≡ issuer-doubt (now (state .entry)) i ⌝ }
 {
-    let mut found = 0u16;
-    for i in 0..16 {
-        found = found | stray_of(state, i);
+    if sessions::awake(state, i) == 0 {
+        return 0;
     }
-    found == 0
+    let mut found = 0u16;
+    for s in 0..16 {
+        found = found | (sessions::stranger(state, i, s) | sessions::lesser(state, i, s));
+    }
+    found
 }
 
-// Whether the words are a lawful state: what stands has what it needs, and no role reaches itself by one or more attachments.
-pub fn lawful(state: &[u16]) -> bool
+// What a survey of all issuers' words has found: stray bits, and what is doubtful in sessions.
+struct Found {
+    stray: u16,
+    doubt: u16,
+}
+
+fn survey(state: &[u16]) -> Found
     requires { ⌜ length (now state) ≡ state-length ⌝ }
-    ensures { λ r. ⌜ r ≡ lawful-words (now (state .entry)) ⌝ }
+    ensures { λ r. ⌜ Surveyed (now (state .entry)) (r .stray) (r .doubt) ⌝ }
 {
-    if supported(state) {
-        hierarchy::acyclic(&state[layout::SENIORS_AT..layout::SESSIONS_AT])
-    } else {
-        false
+    let mut stray = 0u16;
+    let mut doubt = 0u16;
+    for i in 0..16 {
+        stray = stray | stray_of(state, i);
+        doubt = doubt | doubt_of(state, i);
+    }
+    Found { stray, doubt }
+}
+
+// What the law test tells: whether the words are a lawful state, and whether no session of it is to be looked at more closely,
+// since each user holds its active roles itself.
+pub struct Law {
+    pub lawful: bool,
+    pub plain: bool,
+}
+
+// What stands has what it needs, no role reaches itself by one or more attachments, and each active role is reached by one
+// that the session's user holds. Where it holds them all, nothing is walked for that.
+pub fn test(state: &[u16]) -> Law
+    requires { ⌜ length (now state) ≡ state-length ⌝ }
+    ensures { λ r. ⌜ (r .lawful ≡ lawful-words (now (state .entry))) × ((r .plain ≡ true) ↔ Plain (now (state .entry))) ⌝ }
+{
+    let found = survey(state);
+    let plain = found.doubt == 0;
+    if found.stray != 0 {
+        return Law {
+            lawful: false,
+            plain,
+        };
+    }
+    if !hierarchy::acyclic(&state[layout::SENIORS_AT..layout::SESSIONS_AT]) {
+        return Law {
+            lawful: false,
+            plain,
+        };
+    }
+    if plain {
+        return Law {
+            lawful: true,
+            plain,
+        };
+    }
+    Law {
+        lawful: sessions::in_order(state),
+        plain,
     }
 }

@@ -59,7 +59,8 @@ pub fn call(state: &mut [u16], record: &[u8]) -> Answer
     if state.len() != layout::STATE_LENGTH {
         return refuse(1);
     }
-    if !law::lawful(state) {
+    let law = law::test(state);
+    if !law.lawful {
         return refuse(2);
     }
     let Decoded::Request(caller, call) = record::decode(record) else {
@@ -70,7 +71,7 @@ pub fn call(state: &mut [u16], record: &[u8]) -> Answer
         return refuse(refusal);
     }
     let verdict = answers::verdict(state, caller, call);
-    effects::change(state, caller, call);
+    effects::change(state, caller, call, law.plain);
     Answer {
         refusal: 0,
         verdict,

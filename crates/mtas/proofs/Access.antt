@@ -13,12 +13,12 @@ use Rattle.mtas.specs.Call.{CheckAccess}
 use Rattle.mtas.specs.Layout.{view}
 use Rattle.mtas.specs.LawTest.{LawfulWords}
 use Rattle.mtas.specs.Record.{request, decode}
-use Rattle.mtas.specs.Monitor.{answered, monitor}
+use Rattle.mtas.specs.Monitor.{monitor}
 use Rattle.mtas.specs.Decision.{Entitled}
 use Rattle.mtas.specs.Access.{MayAsk, AccessChecks}
 use Rattle.mtas.proofs.Facts.{none-above-15}
 use Rattle.mtas.proofs.Guards.{passed}
-use Rattle.mtas.proofs.Monitor.{accepted-zero, zero-accepted, monitor-lawful}
+use Rattle.mtas.proofs.Answered.{is-accepted, accepts}
 use Rattle.mtas.proofs.Verdict.{else-0}
 
 module _ (st : State) (c p i s : ℕ) where
@@ -36,12 +36,9 @@ access-checks = record { accepted-iff = checked; closed-gives-0 = closed }
   where
     checked : (ws b : List ℕ) (c p i s : ℕ) → LawfulWords ws → decode b ≡ request c (CheckAccess p i s) → ((monitor ws b) .answer .refusal ≡ 0) ↔ MayAsk (view ws) c p i s
     checked ws b c p i s W d = (
-      λ z. asked (view ws) c p i s (zero-accepted (view ws) c (CheckAccess p i s) (sym is ∙ z)),
-      λ m. is ∙ accepted-zero (view ws) c (CheckAccess p i s) (may-ask (view ws) c p i s m),
+      λ z. asked (view ws) c p i s (is-accepted ws b W d z),
+      λ m. accepts ws b W d (may-ask (view ws) c p i s m),
     )
-      where
-        is : (monitor ws b) .answer .refusal ≡ answer (view ws) c (CheckAccess p i s) .refusal
-        is = ap (λ r. r .answer .refusal) (monitor-lawful ws b W) ∙ ap (λ x. answered (view ws) x .refusal) d
 
     closed : (ws b : List ℕ) (c p i s : ℕ) → decode b ≡ request c (CheckAccess p i s) → ((u : ℕ) → (view ws) .stands (opened i s u) ≡ false) → (monitor ws b) .answer .verdict ≡ 0
     closed ws b c p i s d n = else-0 ws b not-open

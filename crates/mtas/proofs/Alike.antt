@@ -9,6 +9,7 @@ use Rattle.mtas.specs.Needs.{exposed}
 use Rattle.mtas.specs.State.{State, user-of}
 use Rattle.mtas.specs.Hierarchy.{_#_, reaches}
 use Rattle.mtas.specs.Law.{attachments}
+use Rattle.mtas.specs.Settle.{authorized}
 use Rattle.mtas.specs.Call.{Call, AddIssuer, RemoveIssuer, AssignTrust, RevokeTrust, AddUser, RemoveUser, AddRole, RemoveRole, AddPerm, RemovePerm, AssignUser, RevokeUser, AssignPerm, RevokePerm, AssignRH, RevokeRH, CreateSession, DeleteSession, AddActiveRole, DropActiveRole, CheckAccess, PublishRole, UnpublishRole, arguments}
 use Rattle.mtas.specs.Rule.{Guard, absent, present, reached, applies, Whose, operator's, issuer's, link-causes, rule, front, guards}
 use Rattle.mtas.specs.Answer.{first-cause, outcome}
@@ -30,7 +31,7 @@ alike-first st st' (g ∷ l) m = go (alike-first st st' l) (applies st g) refl
     go rec true e = let e' : applies st' g ≡ true = sym (m .0) ∙ e in rw (e, e', first-cause)
     go rec false e = let e' : applies st' g ≡ false = sym (m .0) ∙ e in rw (e, e', first-cause) (rec (m .1 (passes st g e)))
 
--- what a call from c looks at: enrolments, what c controls, trust of and in c, and of an issuer that trusts c its roles, those that are public, and what reaches them
+-- what a call from c looks at: enrolments, what c controls, trust of and in c, for which roles c's users are authorized, and of an issuer that trusts c its roles, those that are public, and what reaches them
 pub record SeenAlike (st st' : State) (c : ℕ) : Type 0 where
   pub of-enrolment : (i : ℕ) → st .stands (enrolled i) ≡ st' .stands (enrolled i)
   pub of-own : (f : Fact) → controller f ≡ c → st .stands f ≡ st' .stands f
@@ -39,6 +40,7 @@ pub record SeenAlike (st st' : State) (c : ℕ) : Type 0 where
   pub of-roles : (i r : ℕ) → st .stands (trusts i c) ≡ true → st .stands (role i r) ≡ st' .stands (role i r)
   pub of-public : (i r : ℕ) → st .stands (trusts i c) ≡ true → st .stands (public i r) ≡ st' .stands (public i r)
   pub of-reach : (q i r : ℕ) → st .stands (trusts i c) ≡ true → reaches (attachments st) (c # q) (i # r) ≡ reaches (attachments st') (c # q) (i # r)
+  pub of-authorized : (u r : ℕ) → authorized st (attachments st) c u r ≡ authorized st' (attachments st') c u r
 
 module _ (st st' : State) (c : ℕ) (S : SeenAlike st st' c) where
   its : (f : Fact) → controller f ≡ c → st .stands f ≡ st' .stands f
@@ -82,7 +84,7 @@ module _ (st st' : State) (c : ℕ) (S : SeenAlike st st' c) where
   causes-alike u-of (CreateSession s u) = (missing _ refl, λ _. (its _ refl, λ _. tt))
   causes-alike u-of (DeleteSession s) = (missing _ refl, λ _. tt)
   causes-alike u-of (AddActiveRole s r) =
-      (missing _ refl, λ _. (missing _ refl, λ _. (missing _ refl, λ _. (its _ refl, λ _. tt))))
+      (missing _ refl, λ _. (missing _ refl, λ _. (ap not (S .of-authorized (u-of s) r), λ _. (its _ refl, λ _. tt))))
   causes-alike u-of (DropActiveRole s r) =
       (missing _ refl, λ _. (missing _ refl, λ _. (missing _ refl, λ _. tt)))
   causes-alike u-of (CheckAccess p i s) = (missing _ refl, λ _. tt)

@@ -1,4 +1,4 @@
--- Cases A to L, the further cases, Card 1's and document 01's journal: computed on states, and carried to words and bytes.
+-- Cases A to L, the further cases, those of Cards 1 and 2 and document 01's journal: computed on states, and carried to words and bytes.
 use mathlib.Core.Path.{_≡_, refl, ap, sym, _∙_}
 use mathlib.Core.Logic.{_⊎_, inl, inr}
 use mathlib.Core.List.{List, [], _∷_}
@@ -10,17 +10,18 @@ use lib.ListN.{getD}
 use Rattle.bits.specs.Below.{any-below, find-below}
 use Rattle.bits.specs.Bit.{pack}
 use Rattle.bits.proofs.Booleans.{clash}
-use Rattle.mtas.specs.Fact.{role, attached, opened, same, numbers, above-15}
+use Rattle.mtas.specs.Fact.{role, attached, opened, active, same, numbers, above-15}
 use Rattle.mtas.specs.Needs.{needs, exposed}
 use Rattle.mtas.specs.State.{State, nothing, listed, put, cut}
-use Rattle.mtas.specs.Hierarchy.{within}
-use Rattle.mtas.specs.Law.{In, here, there, Lawful}
+use Rattle.mtas.specs.Hierarchy.{itself, within}
+use Rattle.mtas.specs.Law.{In, here, there, attachments, Authorized, Lawful}
+use Rattle.mtas.specs.Settle.{authorized, settle}
 use Rattle.mtas.specs.Answer.{first-cause, outcome, leads-to, may-use, answer, next}
 use Rattle.mtas.specs.Layout.{word-in, word-at, encode}
 use Rattle.mtas.specs.Record.{decode}
 use Rattle.mtas.specs.Monitor.{answered, state-after}
 use Rattle.mtas.specs.Histories.{History, final}
-use Rattle.mtas.specs.Cases.{S-facts, S, Case, try, twelve-cases, further-cases, indoor-cases, NoneStand, Holds, Every}
+use Rattle.mtas.specs.Cases.{S-facts, S, Case, try, twelve-cases, further-cases, indoor-cases, lesser-cases, dropped-cases, between-cases, NoneStand, Holds, Every}
 use Rattle.mtas.proofs.Facts.{All, all-in, put-new, put-cases, below-16}
 use Rattle.mtas.proofs.Law.{nothing-lawful, put-lawful, put-acyclic}
 use Rattle.mtas.proofs.Step.{differ}
@@ -43,6 +44,15 @@ S-unattached : (j q k r : ℕ) → In (attached j q k r) S-facts → ⊥
 S-unattached j q k r m =
     differ (all-in (λ f. (f ≡ opened 0 0 0 → _≡_ {A = ℕ} 0 3) × (f ≡ attached j q k r → _≡_ {A = ℕ} 0 1)) (S-plain 0 0 0 j q k r) m .1 refl)
 
+-- its one active role is 0#2, which 0@3 holds
+S-active : (i s u r : ℕ) → All (λ f. f ≡ active i s u r → (i ≡ 0) × (u ≡ 3) × (r ≡ 2)) S-facts
+S-active i s u r = ((λ e. ((cc), (cc), (cc))), ((λ e. ((cc), (cc), (cc))), ((λ e. ((cc), (cc), (cc))), ((λ e. ((cc), (cc), (cc))), ((λ e. ((cc), (cc), (cc))), ((λ e. ((cc), (cc), (cc))), ((λ e. ((cc), (cc), (cc))), ((λ e. ((cc), (cc), (cc))), ((λ e. ((cc), (cc), (cc))), ((λ e. ((cc), (cc), (cc))), ((λ e. ((cc), (cc), (cc))), ((λ e. ((cc), (cc), (cc))), ((λ e. ((cc), (cc), (cc))), ((λ e. ((cc), (cc), (cc))), tt))))))))))))))
+
+S-reached : (i s u r : ℕ) → In (active i s u r) S-facts → Authorized S (attachments S) i u r
+S-reached i s u r m =
+    let (a, b, c) = all-in (λ f. f ≡ active i s u r → (i ≡ 0) × (u ≡ 3) × (r ≡ 2)) (S-active i s u r) m refl in
+    rw (a, b, c) (record { through = 2; is-held = put-new S-facts nothing (search (here, there) depth 16); is-reached = itself })
+
 S-numbered : All (λ f. above-15 (numbers f) ≡ false) S-facts
 S-numbered = (refl, (refl, (refl, (refl, (refl, (refl, (refl, (refl, (refl, (refl, (refl, (refl, (refl, (refl, tt))))))))))))))
 
@@ -53,6 +63,7 @@ S-lawful =
     (λ f m. below-16 (numbers f) (all-in (λ x. above-15 (numbers x) ≡ false) S-numbered m))
     (λ i s u v m h. S-session i s u m ∙ sym (again i s v (put-cases S-facts nothing (opened i s v) h)))
     (put-acyclic nothing nothing-lawful S-facts S-unattached)
+    S-reached
   where
     again : (i s v : ℕ) → (In (opened i s v) S-facts) ⊎ (nothing .stands (opened i s v) ≡ true) → v ≡ 3
     again i s v (inl m) = S-session i s v m
@@ -91,25 +102,46 @@ every [] h = tt
 every (c ∷ l) h = (carried c (h .0), every l (h .1))
 
 twelve : EveryOnStates twelve-cases
-unfolding after-all decode answer next outcome first-cause leads-to may-use within put cut listed same exposed decide ℕ-discrete any-below find-below
+unfolding after-all decode answer next outcome first-cause leads-to may-use authorized settle within put cut listed same exposed decide ℕ-discrete any-below find-below
 twelve = ((refl, tt), ((refl, (refl, tt)), ((refl, tt), ((refl, tt), ((refl, tt), ((refl, tt), ((refl, (refl, (refl, tt))), ((refl, tt), ((refl, tt), ((refl, tt), ((refl, tt), ((refl, tt), tt))))))))))))
 
 pub twelve-hold : Every twelve-cases
 twelve-hold = every twelve-cases twelve
 
 further : EveryOnStates further-cases
-unfolding after-all decode answer next outcome first-cause leads-to may-use within put cut listed same exposed decide ℕ-discrete any-below find-below
+unfolding after-all decode answer next outcome first-cause leads-to may-use authorized settle within put cut listed same exposed decide ℕ-discrete any-below find-below
 further = ((refl, (refl, tt)), ((refl, (refl, tt)), ((refl, (refl, tt)), ((refl, (refl, tt)), ((refl, tt), ((refl, (refl, tt)), ((refl, (refl, (refl, (refl, tt)))), ((refl, tt), ((refl, (refl, (refl, (refl, tt)))), ((refl, (refl, (refl, (refl, (refl, (refl, tt)))))), ((refl, (refl, (refl, tt))), ((refl, (refl, (refl, tt))), ((refl, (refl, (refl, tt))), ((refl, (refl, tt)), ((refl, tt), ((refl, tt), ((refl, tt), ((refl, tt), ((refl, tt), ((refl, tt), ((refl, tt), ((refl, tt), ((refl, tt), tt)))))))))))))))))))))))
 
 pub further-hold : Every further-cases
 further-hold = every further-cases further
 
 indoors : EveryOnStates indoor-cases
-unfolding after-all decode answer next outcome first-cause leads-to may-use within put cut listed same exposed decide ℕ-discrete any-below find-below
+unfolding after-all decode answer next outcome first-cause leads-to may-use authorized settle within put cut listed same exposed decide ℕ-discrete any-below find-below
 indoors = ((refl, (refl, tt)), ((refl, tt), ((refl, tt), ((refl, tt), ((refl, (refl, tt)), ((refl, tt), ((refl, (refl, tt)), ((refl, tt), ((refl, (refl, tt)), ((refl, tt), ((refl, (refl, tt)), ((refl, (refl, tt)), ((refl, (refl, (refl, tt))), ((refl, (refl, tt)), ((refl, (refl, tt)), ((refl, (refl, tt)), ((refl, (refl, tt)), ((refl, tt), ((refl, (refl, tt)), ((refl, (refl, tt)), ((refl, tt), ((refl, (refl, tt)), ((refl, (refl, tt)), tt)))))))))))))))))))))))
 
 pub indoor-hold : Every indoor-cases
 indoor-hold = every indoor-cases indoors
+
+lesser : EveryOnStates lesser-cases
+unfolding after-all decode answer next outcome first-cause leads-to may-use authorized settle within put cut listed same exposed decide ℕ-discrete any-below find-below
+lesser = ((refl, (refl, tt)), ((refl, (refl, (refl, tt))), ((refl, tt), ((refl, tt), ((refl, tt), ((refl, tt), ((refl, tt), ((refl, (refl, tt)), tt))))))))
+
+pub lesser-hold : Every lesser-cases
+lesser-hold = every lesser-cases lesser
+
+dropped : EveryOnStates dropped-cases
+unfolding after-all decode answer next outcome first-cause leads-to may-use authorized settle within put cut listed same exposed decide ℕ-discrete any-below find-below
+dropped = ((refl, (refl, tt)), ((refl, tt), ((refl, (refl, tt)), ((refl, (refl, (refl, (refl, tt)))), ((refl, (refl, (refl, (refl, tt)))), ((refl, (refl, (refl, tt))), ((refl, (refl, tt)), ((refl, (refl, tt)), tt))))))))
+
+pub dropped-hold : Every dropped-cases
+dropped-hold = every dropped-cases dropped
+
+between : EveryOnStates between-cases
+unfolding after-all decode answer next outcome first-cause leads-to may-use authorized settle within put cut listed same exposed decide ℕ-discrete any-below find-below
+between = ((refl, (refl, (refl, tt))), ((refl, (refl, tt)), ((refl, (refl, (refl, tt))), tt)))
+
+pub between-hold : Every between-cases
+between-hold = every between-cases between
 
 -- ---- where the words of S stand, by their numbers; and those of its two links
 abbrev At : State → ℕ → ℕ → Type 0

@@ -8,10 +8,13 @@ use Rattle.mtas.specs.Fact.{Fact, enrolled, trusts, user, role, permissi
 use Rattle.mtas.specs.Needs.{enrolment}
 use Rattle.mtas.specs.State.{State, put, cut, user-of}
 use Rattle.mtas.specs.Law.{here, Lawful}
+use Rattle.mtas.specs.Settle.{settle}
 use Rattle.mtas.specs.Call.{Call, AddIssuer, RemoveIssuer, AssignTrust, RevokeTrust, AddUser, RemoveUser, AddRole, RemoveRole, AddPerm, RemovePerm, AssignUser, RevokeUser, AssignPerm, RevokePerm, AssignRH, RevokeRH, CreateSession, DeleteSession, AddActiveRole, DropActiveRole, CheckAccess, PublishRole, UnpublishRole}
 use Rattle.mtas.specs.Rule.{rule}
 use Rattle.mtas.specs.Answer.{accepted, outcome, change, next}
 use Rattle.mtas.proofs.Facts.{put-new, cut-gone}
+use Rattle.mtas.proofs.Settle.{settle-old}
+use Rattle.mtas.proofs.Law.{rooted}
 use Rattle.mtas.proofs.Sessions.{closed}
 use Rattle.mtas.proofs.Guards.{Passed, passed}
 use Rattle.mtas.proofs.Step.{leaves}
@@ -23,8 +26,8 @@ module _ (st : State) (L : Lawful st) where
   new : (f : Fact) → st .stands f ≡ false → put (f ∷ []) st ≡ st → ⊥
   new f h e = clash (put-new (f ∷ []) st here) (ap (λ x. x .stands f) e ∙ h)
 
-  gone : (f : Fact) → st .stands f ≡ true → cut f st ≡ st → ⊥
-  gone f h e = clash h (sym (ap (λ x. x .stands f) e) ∙ cut-gone f st f here)
+  gone : (f : Fact) → st .stands f ≡ true → settle (cut f st) ≡ st → ⊥
+  gone f h e = clash (settle-old (cut f st) f (ap (λ x. x .stands f) e ∙ h)) (cut-gone f st f here)
 
   moves : (c : ℕ) (k : Call) → Passed st c k → change (rule (user-of st c) c k .effect) st ≡ st → Checks k
   moves c (AddIssuer i) p e = absurd (clash (put-new (enrolment i) st here) (ap (λ x. x .stands (enrolled i)) e ∙ p .own .0))
@@ -43,7 +46,7 @@ module _ (st : State) (L : Lawful st) where
   moves c (RevokePerm x i r) p e = absurd (gone (granted c x i r) (search p) e)
   moves c (AssignRH q i r) p e = absurd (new (attached c q i r) (search p) e)
   moves c (RevokeRH q i r) p e = absurd (gone (attached c q i r) (search p) e)
-  moves c (CreateSession s u) p e = absurd (new (opened c s u) (closed st L c s (search p) u) e)
+  moves c (CreateSession s u) p e = absurd (new (opened c s u) (closed st (rooted L) c s (search p) u) e)
   moves c (DeleteSession s) p e = absurd (gone (opened c s (user-of st c s)) (search p) e)
   moves c (AddActiveRole s r) p e = absurd (new (active c s (user-of st c s) r) (search p) e)
   moves c (DropActiveRole s r) p e = absurd (gone (active c s (user-of st c s) r) (search p) e)

@@ -12,7 +12,8 @@ use Rattle.mtas.specs.Law.{here, attachments, holders-of, Lawful}
 use Rattle.mtas.specs.Answer.{leads-to, may-use, decides-on}
 use Rattle.mtas.specs.Decision.{MayUse, MayUsePermission}
 use Rattle.mtas.proofs.Hierarchy.{Numbered, reaches-sound, reaches-complete}
-use Rattle.mtas.proofs.Law.{attachments-numbered}
+use Rattle.mtas.proofs.Authorized.{attachments-numbered}
+use Rattle.mtas.proofs.Law.{rooted}
 use Rattle.mtas.proofs.Sessions.{user-is}
 
 module _ (below : Graph) (holder : Role → Bool) where
@@ -53,7 +54,7 @@ module _ (below : Graph) (holder : Role → Bool) where
         complete m =
             any-both-intro 16 (λ r. st .stands (active i s (user-of st i s) r)) (λ r. leads-to below holder (i # r)) (m .its-role)
             ((L .numbered (active i s (m .its-user) (m .its-role)) (m .is-active)) .1 .1 .1 .0)
-            (rw (user-is st L i s (m .its-user) (m .is-open)) (m .is-active))
+            (rw (user-is st (rooted L) i s (m .its-user) (m .is-open)) (m .is-active))
             (leads-to-complete (i # m .its-role) (m .reached) (m .is-reached) (m .is-holder))
 
 module _ (st : State) (L : Lawful st) where

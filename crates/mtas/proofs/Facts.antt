@@ -80,7 +80,7 @@ roots-of-roots (holds i u r) = search (here, there)
 roots-of-roots (granted j p i r) = (search (here, there) depth 9, (search (here, there) depth 9, (search (here, there) depth 9, (exposed-rooted j i r (search (here, there)) (search (here, there)) (search (here, there) depth 9) (search (here, there) depth 9), (search (here, there) depth 9, (search (here, there) depth 9, (search (here, there) depth 9, (search (here, there) depth 9, (search (here, there) depth 9, tt)))))))))
 roots-of-roots (attached j q i r) = (search (here, there) depth 9, (search (here, there) depth 9, (search (here, there) depth 9, (exposed-rooted j i r (search (here, there)) (search (here, there)) (search (here, there) depth 9) (search (here, there) depth 9), (search (here, there) depth 9, (search (here, there) depth 9, (search (here, there) depth 9, (search (here, there) depth 9, (search (here, there) depth 9, tt)))))))))
 roots-of-roots (opened i s u) = search (here, there) depth 9
-roots-of-roots (active i s u r) = (search (here, there) depth 9, (search (here, there) depth 9, (search (here, there) depth 9, (search (here, there) depth 9, (search (here, there) depth 9, (search (here, there) depth 9, (search (here, there) depth 9, tt)))))))
+roots-of-roots (active i s u r) = (search (here, there) depth 9, (search (here, there) depth 9, (search (here, there) depth 9, (search (here, there) depth 9, (search (here, there) depth 9, (search (here, there) depth 9, tt))))))
 
 pub roots-trans : (g : Fact) {n f : Fact} → In n (roots g) → In f (roots n) → In f (roots g)
 roots-trans g a b =

@@ -11,8 +11,9 @@ use Rattle.mtas.specs.Fact.{enrolled, Below16}
 use Rattle.mtas.specs.State.{State, user-of}
 use Rattle.mtas.specs.Hierarchy.{reaches}
 use Rattle.mtas.specs.Law.{attachments}
+use Rattle.mtas.specs.Settle.{authorized}
 use Rattle.mtas.specs.Call.{Call, arguments}
-use Rattle.mtas.specs.Rule.{Guard, absent, present, wrong, reached, cause, applies, Whose, operator's, issuer's, rule, may-call, front, guards, refusals, from-first, among-numbers, in-order}
+use Rattle.mtas.specs.Rule.{Guard, absent, present, wrong, reached, unauthorized, cause, applies, Whose, operator's, issuer's, rule, may-call, front, guards, refusals, from-first, among-numbers, in-order}
 use Rattle.mtas.specs.Answer.{accepted, refused, first-cause, outcome}
 use Rattle.mtas.proofs.Facts.{below-16}
 use Rattle.mtas.proofs.Refusals.{first-rest, still-among, tried-in-order}
@@ -23,6 +24,7 @@ Passes st (absent n f) = st .stands f ≡ true
 Passes st (present n f) = st .stands f ≡ false
 Passes st (wrong n b) = b ≡ false
 Passes st (reached n a b) = reaches (attachments st) a b ≡ false
+Passes st (unauthorized n i u r) = authorized st (attachments st) i u r ≡ true
 
 abbrev pub Clear : State → List Guard → Type 0
 Clear st [] = Unit
@@ -33,6 +35,7 @@ passes st (absent n f) h = not-false (st .stands f) h
 passes st (present n f) h = h
 passes st (wrong n b) h = h
 passes st (reached n a b) h = h
+passes st (unauthorized n i u r) h = not-false (authorized st (attachments st) i u r) h
 
 clear : (st : State) (l : List Guard) → first-cause st l ≡ accepted → Clear st l
 unfolding first-cause

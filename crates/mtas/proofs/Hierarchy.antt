@@ -16,7 +16,7 @@ then p itself = p
 then p (down q h) = down (then p q) h
 
 -- with fewer links less is reached, and no circle closes
-fewer-links : {e e' : Graph} → ((a b : Role) → e' a b ≡ true → e a b ≡ true) → {a b : Role} → Reaches e' a b → Reaches e a b
+pub fewer-links : {e e' : Graph} → ((a b : Role) → e' a b ≡ true → e a b ≡ true) → {a b : Role} → Reaches e' a b → Reaches e a b
 fewer-links s itself = itself
 fewer-links s (down {b} {c} p h) = down (fewer-links s p) (s b c h)
 
@@ -46,13 +46,13 @@ module _ (e e' : Graph) (r q : Role) (more : (a b : Role) → e' a b ≡ true �
       go (inr k) (inl x) = clear (subst (λ z. Reaches e z r) (k .1) (subst (Reaches e b) (k .0) x))
       go (inr k) (inr x) = clear (subst (λ z. Reaches e z r) (k .1) (x .0))
 
-same-role-true : (a b : Role) → same-role a b ≡ true → a ≡ b
+pub same-role-true : (a b : Role) → same-role a b ≡ true → a ≡ b
 same-role-true a b h =
     let i : a .issuer ≡ b .issuer = eqb-true _ _ (and-left (eqb (a .issuer) (b .issuer)) (eqb (a .number) (b .number)) h) in
     let n : a .number ≡ b .number = eqb-true _ _ (and-right (eqb (a .issuer) (b .issuer)) (eqb (a .number) (b .number)) h) in
     λ t. i t # n t
 
-same-role-refl : (a : Role) → same-role a a ≡ true
+pub same-role-refl : (a : Role) → same-role a a ≡ true
 same-role-refl a = simp (eq-eqb (a .issuer) (a .issuer) refl, eq-eqb (a .number) (a .number) refl)
 
 pub nth-role-of : (a : Role) → a .issuer < 16 → a .number < 16 → nth-role (a .issuer * 16 + a .number) ≡ a

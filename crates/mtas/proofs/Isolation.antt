@@ -1,24 +1,29 @@
 -- The unwinding's first half: an outsider's call changes nothing that the members or the operator control.
-use mathlib.Core.Path.{_≡_, refl, sym, _∙_, subst}
+use mathlib.Core.Path.{_≡_, refl, ap, ap₂, sym, _∙_, subst}
 use mathlib.Core.Logic.{_⊎_, inl, inr, _≢_}
-use mathlib.Core.Bool.{Bool, true, false}
+use mathlib.Core.Bool.{Bool, true, false, _&&_}
 use Prim.Native.Nat.{ℕ}
 use lib.Dec.{eqb}
 use borrow.Author.Tests.{eq-eqb, eqb-true, ne-eqb}
 use Rattle.bits.proofs.Booleans.{clash, untrue, same-test}
 use Rattle.mtas.specs.Fact.{Fact, enrolled, trusts, user, role, permission, public, holds, granted, attached, opened, active}
 use Rattle.mtas.specs.Needs.{exposed}
-use Rattle.mtas.specs.State.{State, nothing, user-of}
-use Rattle.mtas.specs.Law.{In, Lawful}
+use Rattle.mtas.specs.State.{State, nothing, cut, user-of}
+use Rattle.mtas.specs.Hierarchy.{Role}
+use Rattle.mtas.specs.Law.{In, attachments, Lawful}
+use Rattle.mtas.specs.Settle.{authorized, settle}
 use Rattle.mtas.specs.Call.{Call, AddIssuer, RemoveIssuer, AssignTrust, RevokeTrust, AddUser, RemoveUser, AddRole, RemoveRole, AddPerm, RemovePerm, AssignUser, RevokeUser, AssignPerm, RevokePerm, AssignRH, RevokeRH, CreateSession, DeleteSession, AddActiveRole, DropActiveRole, CheckAccess, PublishRole, UnpublishRole}
 use Rattle.mtas.specs.Rule.{Effect, puts, cuts, decides, rule}
 use Rattle.mtas.specs.Answer.{Outcome, accepted, refused, outcome, change, after, next}
 use Rattle.mtas.specs.Layout.{Word, enrolled-issuers, trusted, users, roles, permissions, held, holders, seniors, session-user, active-roles, public-roles, Cell, sixteen, its-user, in-session, cell, owner}
 use Rattle.mtas.proofs.Exposed.{exposed-has}
 use Rattle.mtas.proofs.Facts.{All, all-in, roots, put-old, put-cases, cut-old, cut-other}
-use Rattle.mtas.proofs.Law.{nothing-lawful, grant-trust, link-trust}
+use Rattle.mtas.proofs.Authorized.{AllNumbered, attachments-numbered, authorized-sound, authorized-complete}
+use Rattle.mtas.proofs.Settle.{Fixed, IsActive, settle-is, settle-active, lawful-settled}
+use Rattle.mtas.proofs.Law.{nothing-lawful, grant-trust, link-trust, cut-rooted, left-old}
 use Rattle.mtas.proofs.Guards.{Passed, passed}
 use Rattle.mtas.proofs.Step.{next-lawful}
+use Rattle.mtas.proofs.Walks.{Carries, authorized-inside}
 
 -- whose calls set a fact: the operator, 16, enrols, and so makes an issuer trust itself
 abbrev pub controller : Fact → ℕ
@@ -94,6 +99,30 @@ module _ (inside : ℕ → Bool) where
   abbrev pub Calm : State → ℕ → Call → Type 0
   Calm st c k = (j : ℕ) → k ≡ AssignTrust j → inside c ≡ false → inside j ≡ true → outcome st c k ≡ accepted → ⊥
 
+  -- upwards from an inside role there are only inside roles
+  abbrev pub Upwards : State → Type 0
+  Upwards st = (a b : Role) → attachments st a b ≡ true → inside (b .issuer) ≡ true → inside (a .issuer) ≡ true
+
+  pub carries : (st st' : State) → Upwards st → Agree st st' → Carries inside (attachments st) (attachments st')
+  carries st st' U A a b h e = (U a b e h, sym (A (attached (b .issuer) (b .number) (a .issuer) (a .number)) h) ∙ e)
+
+  -- so two states that agree authorize inside users alike, and agree once they are settled
+  module _ (st st' : State) (N : AllNumbered st) (N' : AllNumbered st') (U : Upwards st) (U' : Upwards st') (A : Agree st st') where
+    pub authorized-same : (i u r : ℕ) → inside i ≡ true → authorized st (attachments st) i u r ≡ authorized st' (attachments st') i u r
+    authorized-same i u r h =
+        same-test _ _
+        (λ e. authorized-complete st' (attachments st') i u r N' (attachments-numbered st' N') (authorized-inside inside (carries st st' U A) h (λ t x. sym (A (holds i u t) h) ∙ x) (authorized-sound st (attachments st) i u r e)))
+        (λ e. authorized-complete st (attachments st) i u r N (attachments-numbered st N) (authorized-inside inside (carries st' st U' (λ f o. sym (A f o))) h (λ t x. A (holds i u t) h ∙ x) (authorized-sound st' (attachments st') i u r e)))
+
+    pub settle-agree : Agree (settle st) (settle st')
+    settle-agree f o = go (settle-is f)
+      where
+        go : (Fixed f) ⊎ (IsActive f) → (settle st) .stands f ≡ (settle st') .stands f
+        go (inl e) = e st ∙ A f o ∙ sym (e st')
+        go (inr (i, s, u, r, e)) =
+            let h : inside i ≡ true = rw e at o in
+            rw e (settle-active st i s u r ∙ ap₂ _&&_ (A (active i s u r) h) (authorized-same i u r h) ∙ sym (settle-active st' i s u r))
+
 module _ (inside : ℕ → Bool) (op : inside 16 ≡ true) where
   pub trust-inside : (i j : ℕ) → inside i ≡ true → inside (controller (trusts i j)) ≡ true
   trust-inside i j h = go (eqb i j) refl
@@ -125,6 +154,12 @@ module _ (inside : ℕ → Bool) (op : inside 16 ≡ true) where
         go true e = e
         go false e = absurd (clash h (S .apart i j e k))
 
+    pub upwards : Upwards inside st
+    upwards a b e h = trustor-inside (a .issuer) (b .issuer) (link-trust st (S .lawful) e) h
+
+    pub cut-upwards : (x : Fact) → Upwards inside (cut x st)
+    cut-upwards x a b e h = upwards a b (cut-old x st (attached (b .issuer) (b .number) (a .issuer) (a .number)) e) h
+
     self-inside : (i : ℕ) → inside (controller (trusts i i)) ≡ true
     self-inside i = rw (self-trust i) op
 
@@ -149,16 +184,21 @@ module _ (inside : ℕ → Bool) (op : inside 16 ≡ true) where
     roots-inside (opened i s u) h o = search self-inside
     roots-inside (active i s u r) h o = search self-inside
 
+    cut-unseen : (x : Fact) → inside (controller x) ≡ false → Agree inside (cut x st) st
+    cut-unseen x h f o = same-test _ _ (λ p. cut-old x st f p) (λ p. cut-other x st f (λ m. kept p m) ∙ p)
+      where
+        kept : st .stands f ≡ true → In x (roots f) → ⊥
+        kept p m = clash (all-in (λ y. inside (controller y) ≡ true) (roots-inside f p o) m) h
+
     change-unseen : (c : ℕ) (k : Call) (e : Effect) → inside c ≡ false → Own c k e → (f : Fact) → inside (controller f) ≡ true → (change e st) .stands f ≡ st .stands f
     change-unseen c k (puts l) h w f o = same-test _ _ (λ p. go (put-cases l st f p)) (λ p. put-old l st f p)
       where
         go : (In f l) ⊎ (st .stands f ≡ true) → st .stands f ≡ true
         go (inl m) = absurd (clash o (rw ((all-in (λ x. (controller x ≡ c) × ((o' m' : ℕ) → x ≡ trusts o' m' → o' ≢ m' → k ≡ AssignTrust m')) w m) .0) h))
         go (inr p) = p
-    change-unseen c k (cuts x) h w f o = same-test _ _ (λ p. cut-old x st f p) (λ p. cut-other x st f (λ m. kept p m) ∙ p)
-      where
-        kept : st .stands f ≡ true → In x (roots f) → ⊥
-        kept p m = clash (all-in (λ y. inside (controller y) ≡ true) (roots-inside f p o) m) (rw w h)
+    change-unseen c k (cuts x) h w f o =
+        settle-agree inside (cut x st) st (cut-rooted st (S .lawful) x .numbered) (S .lawful .numbered) (cut-upwards x) upwards (cut-unseen x (rw w h)) f o
+        ∙ ap (λ z. z .stands f) (lawful-settled st (S .lawful))
     change-unseen c k (decides p i s) h w f o = refl
 
     pub outsider-unseen : (c : ℕ) (k : Call) → inside c ≡ false → Agree inside (next st c k) st
@@ -182,7 +222,7 @@ module _ (inside : ℕ → Bool) (op : inside 16 ≡ true) where
             let y = all-in (λ f. (controller f ≡ c) × ((o' m' : ℕ) → f ≡ trusts o' m' → o' ≢ m' → k ≡ AssignTrust m')) w x in
             n (sym (rw (ne-eqb o m apart, controller) at (y .0))) (y .1 o m refl apart)
         go (inr x) = clash x (S .apart o m ho hm)
-    change-apart o m ho hm c k (cuts f) w n p = clash (cut-old f st (trusts o m) p) (S .apart o m ho hm)
+    change-apart o m ho hm c k (cuts f) w n p = clash (left-old st (S .lawful) f (trusts o m) p) (S .apart o m ho hm)
     change-apart o m ho hm c k (decides p' i s) w n p = clash p (S .apart o m ho hm)
 
     pub next-secure : (c : ℕ) (k : Call) → Calm inside st c k → Secure inside (next st c k)

@@ -12,15 +12,17 @@ use Rattle.bits.specs.Below.{all-below}
 use Rattle.bits.specs.Bit.{bit}
 use Rattle.bits.proofs.Booleans.{clash, untrue, and-left, and-right, and-intro, or-cases, or-left, or-right}
 use Rattle.bits.proofs.Below.{all-intro, all-elim}
-use Rattle.mtas.specs.Fact.{Fact, numbers, Below16}
+use Rattle.mtas.specs.Fact.{Fact, active, numbers, Below16}
 use Rattle.mtas.specs.Needs.{needs}
 use Rattle.mtas.specs.State.{State}
 use Rattle.mtas.specs.Hierarchy.{Role, Graph, nth-role, reaches, Acyclic}
-use Rattle.mtas.specs.Law.{In, here, there, attachments, Lawful}
+use Rattle.mtas.specs.Law.{In, here, there, attachments, Authorized, Lawful}
+use Rattle.mtas.specs.Settle.{settle}
 use Rattle.mtas.specs.Layout.{Word, session-user, Cell, sixteen, its-user, in-session, cell, Place, bit-of, user-in, bit-while, place, state-length, address, word-at, read, tells, view}
-use Rattle.mtas.specs.LawTest.{LawfulWords, Fits, every-word, fits, said, all-of, has-needs, no-circle, lawful-words}
+use Rattle.mtas.specs.LawTest.{LawfulWords, Fits, every-word, fits, said, all-of, has-needs, stays, no-circle, lawful-words}
 use Rattle.mtas.proofs.Hierarchy.{Numbered as Linked-numbered, nth-role-of, reaches-sound, reaches-complete}
-use Rattle.mtas.proofs.Law.{attachments-numbered}
+use Rattle.mtas.proofs.Authorized.{attachments-numbered}
+use Rattle.mtas.proofs.Settle.{settle-reached, lawful-settled}
 use Rattle.mtas.proofs.Address.{word-numbers, address-below, word-at-address}
 use Rattle.mtas.proofs.Cells.{Says, said-there, PlaceNumbered, place-numbered}
 use Rattle.mtas.proofs.Words.{view-says, view-numbered, view-opened, wide-everywhere}
@@ -53,6 +55,19 @@ has-needs-intro st L f = go (st .stands f) refl
 has-needs-elim : (st : State) (f g : Fact) → has-needs st f ≡ true → st .stands f ≡ true → In g (needs f) → st .stands g ≡ true
 unfolding has-needs
 has-needs-elim st f g h e m = all-of-elim (λ x. st .stands x) m (rw (e, has-needs) at h)
+
+-- ---- settling
+stays-intro : (st : State) → Lawful st → (f : Fact) → stays st f ≡ true
+unfolding stays
+stays-intro st L f = go (st .stands f) refl
+  where
+    go : (b : Bool) → st .stands f ≡ b → stays st f ≡ true
+    go true e = rw (e, stays) (ap (λ x. x .stands f) (lawful-settled st L) ∙ e)
+    go false e = rw (e, stays)
+
+stays-elim : (st : State) (f : Fact) → stays st f ≡ true → st .stands f ≡ true → (settle st) .stands f ≡ true
+unfolding stays
+stays-elim st f h e = rw (e, stays) at h
 
 -- ---- every fact that stands is said by a bit of a word
 record SaidBy (ws : List ℕ) (f : Fact) : Type 0 where
@@ -125,12 +140,14 @@ fits-complete ws (in-session i s f) x h = go (eqb (read ws (session-user i s)) 6
 -- ---- the whole test
 
 -- of what words say, two conditions of the law hold by themselves
-pub view-lawful : (ws : List ℕ) → ((f g : Fact) → (view ws) .stands f ≡ true → In g (needs f) → (view ws) .stands g ≡ true) → Acyclic (attachments (view ws)) → Lawful (view ws)
-view-lawful ws s a = record {
+pub view-lawful : (ws : List ℕ) → ((f g : Fact) → (view ws) .stands f ≡ true → In g (needs f) → (view ws) .stands g ≡ true) → Acyclic (attachments (view ws))
+    → ((i s u r : ℕ) → (view ws) .stands (active i s u r) ≡ true → Authorized (view ws) (attachments (view ws)) i u r) → Lawful (view ws)
+view-lawful ws s a r = record {
   supported = s;
   numbered = view-numbered ws;
   one-user = λ i s u v e f. sym (view-opened ws i s u e) ∙ view-opened ws i s v f;
   acyclic = a;
+  reached = r;
 }
 
 pub lawful-words-sound : (ws : List ℕ) → lawful-words ws ≡ true → LawfulWords ws
@@ -140,6 +157,7 @@ lawful-words-sound ws h =
     let bits : every-word ws (λ k x. ltb x 65536) ≡ true = search conjuncts in
     let sorts : every-word ws (λ k x. fits ws (cell (word-at k)) x) ≡ true = search conjuncts in
     let law : every-word ws (λ k x. all-below 16 (λ n. has-needs (view ws) (said ws (cell (word-at k)) n))) ≡ true = search conjuncts in
+    let kept : every-word ws (λ k x. all-below 16 (λ n. stays (view ws) (said ws (cell (word-at k)) n))) ≡ true = search conjuncts in
     let round : no-circle (attachments (view ws)) ≡ true = search conjuncts in
     record {
       long = len;
@@ -149,7 +167,10 @@ lawful-words-sound ws h =
           (λ f g e m.
           let b = said-by ws f e in
           has-needs-elim (view ws) f g (rw (b .is) at (all-elim 16 _ (all-elim state-length _ law (b .at) (b .inside)) (b .nth) (b .low))) e m)
-          (no-circle-sound (attachments (view ws)) (attachments-numbered (view ws) (view-numbered ws)) round);
+          (no-circle-sound (attachments (view ws)) (attachments-numbered (view ws) (view-numbered ws)) round)
+          (λ i s u r e.
+          let b = said-by ws (active i s u r) e in
+          settle-reached (view ws) i s u r (stays-elim (view ws) (active i s u r) (rw (b .is) at (all-elim 16 _ (all-elim state-length _ kept (b .at) (b .inside)) (b .nth) (b .low))) e));
     }
 
 pub lawful-words-complete : (ws : List ℕ) → LawfulWords ws → lawful-words ws ≡ true
@@ -160,4 +181,6 @@ lawful-words-complete ws h =
     let sorts : every-word ws (λ k x. fits ws (cell (word-at k)) x) ≡ true = all-intro state-length _ (λ k l. fits-complete ws (cell (word-at k)) (getD ws k 0) (h .fit k l)) in
     let law : every-word ws (λ k x. all-below 16 (λ n. has-needs (view ws) (said ws (cell (word-at k)) n))) ≡ true =
     all-intro state-length _ (λ k _. all-intro 16 _ (λ n _. has-needs-intro (view ws) (h .lawful) _)) in
-    rw (long, bits, sorts, law, no-circle-complete (attachments (view ws)) (h .lawful .acyclic))
+    let kept : every-word ws (λ k x. all-below 16 (λ n. stays (view ws) (said ws (cell (word-at k)) n))) ≡ true =
+    all-intro state-length _ (λ k _. all-intro 16 _ (λ n _. stays-intro (view ws) (h .lawful) _)) in
+    rw (long, bits, sorts, law, kept, no-circle-complete (attachments (view ws)) (h .lawful .acyclic))

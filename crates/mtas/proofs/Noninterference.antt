@@ -9,20 +9,24 @@ use Rattle.bits.proofs.Booleans.{clash}
 use Rattle.bits.proofs.Bit.{bit-pack, pack-ext}
 use Rattle.mtas.specs.Fact.{Fact, enrolled}
 use Rattle.mtas.specs.State.{State, nothing, packed, user-of}
-use Rattle.mtas.specs.Law.{Lawful}
+use Rattle.mtas.specs.Hierarchy.{Role, _#_, Graph, Reaches, itself, down}
+use Rattle.mtas.specs.Law.{attachments, Lawful}
 use Rattle.mtas.specs.Call.{Call, AssignTrust}
 use Rattle.mtas.specs.Answer.{accepted, outcome}
 use Rattle.mtas.specs.Decision.{MayUsePermission}
 use Rattle.mtas.specs.Layout.{enrolled-issuers, Cell, sixteen, its-user, in-session, cell, word-at, contents, encode, view}
 use Rattle.mtas.specs.Record.{Request, undecodable, request, decode, inside, remains}
 use Rattle.mtas.specs.Monitor.{initial-words, answered, state-after, monitor}
-use Rattle.mtas.specs.Histories.{History, final, purge, answers, TrustRefused, NoTrustIn, SameInName, Noninterference}
+use Rattle.mtas.specs.Histories.{History, final, purge, answers, TrustRefused, NoTrustIn, SameInName, Noninterference, OnlyMembersReach}
+use Rattle.mtas.proofs.Hierarchy.{Numbered}
+use Rattle.mtas.proofs.Authorized.{attachments-numbered}
 use Rattle.mtas.proofs.Guards.{Passed, passed}
 use Rattle.mtas.proofs.Decision.{decision-iff}
 use Rattle.mtas.proofs.Words.{encode-at, read-encode, view-encode}
 use Rattle.mtas.proofs.Monitor.{initial-is-nothing, monitor-encode, accepted-zero}
 use Rattle.mtas.proofs.Remaining.{issuer's}
-use Rattle.mtas.proofs.Isolation.{controller, Controlled, owned-inside, Secure, nothing-secure, Agree, Calm, outsider-unseen, next-secure}
+use Rattle.mtas.proofs.Walks.{from-inside}
+use Rattle.mtas.proofs.Isolation.{controller, Controlled, owned-inside, Secure, nothing-secure, Agree, Calm, carries, upwards, outsider-unseen, next-secure}
 use Rattle.mtas.proofs.Unwinding.{user-same, decision-same, answer-same, next-agrees}
 
 module _ (member : ℕ → Bool) where
@@ -176,3 +180,32 @@ noninterference member h₁ h₂ e q₁ q₂ = record {
         let b = decision-iff (t₂ .left) (t₂ .left-secure .lawful) j p i s in
         let d = decision-same (inside member) refl (t₁ .left) (t₂ .left) (t₁ .left-secure) (t₂ .left-secure) agree j p i s m in
         (λ x. b .0 (sym d ∙ a .1 x), λ x. a .0 (d ∙ b .1 x))
+
+-- what reaches an issuer's role is an issuer's
+issuer-below : {e : Graph} {a b : Role} → Numbered e → Reaches e a b → b .issuer < 16 → a .issuer < 16
+issuer-below w itself l = l
+issuer-below w (down {b} {c} p h) l = issuer-below w p (w b c h .0)
+
+pub only-members-reach : OnlyMembersReach
+only-members-reach member h q a j r l m w = (below, sym (issuer's member (a .issuer) below) ∙ from)
+  where
+    n : initial-words ≡ encode nothing
+    n = initial-is-nothing
+
+    t : Twins member (encode nothing) (encode nothing) h (purge member h)
+    t = twins member h nothing nothing (nothing-secure (inside member)) (nothing-secure (inside member)) (λ f o. refl) (rw n at q)
+
+    st : State
+    st = t .left
+
+    S : Secure (inside member) st
+    S = t .left-secure
+
+    there : Reaches (attachments st) a (j # r)
+    there = rw (n, t .left-is, view-encode (t .left) (t .left-secure .lawful)) at w
+
+    below : a .issuer < 16
+    below = issuer-below (attachments-numbered st (S .lawful .numbered)) there l
+
+    from : inside member (a .issuer) ≡ true
+    from = (from-inside (inside member) (carries (inside member) st st (upwards (inside member) refl st S) (λ f o. refl)) there (member-inside member j l m)) .0

@@ -2,78 +2,30 @@
 use mathlib.Core.Path.{_≡_, refl, ap, sym, _∙_}
 use mathlib.Core.Logic.{_⊎_, inl, inr, _↔_, _≢_}
 use mathlib.Core.List.{List, [], _∷_, _++_}
-use mathlib.Core.Bool.{Bool, true, false, not, _&&_}
+use mathlib.Core.Bool.{true, false, not}
 use Prim.Native.Nat.{ℕ}
 use native.Mathlib.Decide.{ℕ-discrete}
 use native.Mathlib.Omega.{arith}
-use lib.Dec.{eqb}
 use borrow.Author.Tests.{eq-eqb, ne-eqb, ltb-true, lt-ltb, not-true}
-use Rattle.bits.proofs.Booleans.{clash, untrue, and-left, and-right}
+use Rattle.bits.proofs.Booleans.{clash, untrue}
 use Rattle.mtas.specs.Fact.{Fact, enrolled, trusts, role, permission, public, granted, attached}
 use Rattle.mtas.specs.Needs.{exposed}
 use Rattle.mtas.specs.State.{State, put}
 use Rattle.mtas.specs.Hierarchy.{_#_}
 use Rattle.mtas.specs.Law.{here, there, Lawful}
 use Rattle.mtas.specs.Call.{Call, AddRole, arguments}
-use Rattle.mtas.specs.Rule.{Guard, absent, present, wrong, reached, cause, applies, issuer's, link-causes, front}
-use Rattle.mtas.specs.Answer.{Outcome, accepted, refused, first-cause, outcome, answer, next}
+use Rattle.mtas.specs.Rule.{Guard, absent, present, reached, issuer's, link-causes, front}
+use Rattle.mtas.specs.Answer.{accepted, refused, first-cause, outcome, next}
 use Rattle.mtas.specs.Layout.{view}
-use Rattle.mtas.specs.LawTest.{LawfulWords}
-use Rattle.mtas.specs.Record.{request, decode}
-use Rattle.mtas.specs.Monitor.{answered, monitor}
 use Rattle.mtas.specs.PublicRoles.{LinksTo, grant, ungrant, attach, detach, Indoors, PublicRoles}
 use Rattle.mtas.proofs.Exposed.{own-exposed, other-exposed}
 use Rattle.mtas.proofs.Facts.{in-one, put-other, none-above-15}
-use Rattle.mtas.proofs.Guards.{Passes, Clear, passes, admitted, passed}
-use Rattle.mtas.proofs.Step.{differ, leaves, refused-answer, next-lawful}
+use Rattle.mtas.proofs.Guards.{Clear, admitted, passed}
+use Rattle.mtas.proofs.Step.{differ, leaves, next-lawful}
 use Rattle.mtas.proofs.Words.{view-encode}
-use Rattle.mtas.proofs.Monitor.{accepted-zero, zero-accepted, monitor-lawful}
-
--- ---- a guard that alone has its number
--- no guard of the list has the number n
-abbrev spares : ℕ → List Guard → Bool
-spares n [] = true
-spares n (g ∷ l) = not (eqb (cause g) n) && spares n l
-
-module _ (st : State) where
-  not-refused : (n : ℕ) (l : List Guard) → spares n l ≡ true → first-cause st l ≡ refused n → ⊥
-  unfolding first-cause
-  not-refused n [] s h = differ (cc)
-  not-refused n (g ∷ l) s h = go (not-refused n l (and-right (not (eqb (cause g) n)) (spares n l) s)) (applies st g) refl
-    where
-      go : (first-cause st l ≡ refused n → ⊥) → (b : Bool) → applies st g ≡ b → ⊥
-      go rec true e =
-          let q : cause g ≡ n = cc (rw (e, first-cause) at h) in
-          clash (eq-eqb (cause g) n q) (not-true _ (and-left (not (eqb (cause g) n)) (spares n l) s))
-      go rec false e = rec (rw (e, first-cause) at h)
-
-  module _ (g : Guard) (l : List Guard) (behind : spares (cause g) l ≡ true) where
-    -- where its number is given, all before it passed, and it applies
-    stopped : (m : List Guard) → spares (cause g) m ≡ true → first-cause st (m ++ (g ∷ l)) ≡ refused (cause g) → Clear st m × (applies st g ≡ true)
-    unfolding first-cause
-    stopped [] s h = (tt, go (applies st g) refl)
-      where
-        go : (b : Bool) → applies st g ≡ b → applies st g ≡ true
-        go true e = e
-        go false e = absurd (not-refused (cause g) l behind (rw (e, first-cause) at h))
-    stopped (x ∷ m) s h = go (stopped m (and-right (not (eqb (cause x) (cause g))) (spares (cause g) m) s)) (applies st x) refl
-      where
-        go : (first-cause st (m ++ (g ∷ l)) ≡ refused (cause g) → Clear st m × (applies st g ≡ true)) → (b : Bool) → applies st x ≡ b → Clear st (x ∷ m) × (applies st g ≡ true)
-        go rec true e =
-            let q : cause x ≡ cause g = cc (rw (e, first-cause) at h) in
-            absurd (clash (eq-eqb (cause x) (cause g) q) (not-true _ (and-left (not (eqb (cause x) (cause g))) (spares (cause g) m) s)))
-        go rec false e = let (c, a) = rec (rw (e, first-cause) at h) in ((passes st x e, c), a)
-
-  passed-over : (g : Guard) → Passes st g → applies st g ≡ false
-  passed-over (absent n f) h = ap not h
-  passed-over (present n f) h = h
-  passed-over (wrong n b) h = h
-  passed-over (reached n a b) h = h
-
-  stops : (g : Guard) (l m : List Guard) → Clear st m → applies st g ≡ true → first-cause st (m ++ (g ∷ l)) ≡ refused (cause g)
-  unfolding first-cause
-  stops g l [] c a = rw (a, first-cause)
-  stops g l (x ∷ m) c a = rw (passed-over x (c .0), first-cause) (stops g l m (c .1) a)
+use Rattle.mtas.proofs.Tried.{spares, stopped, stops}
+use Rattle.mtas.proofs.Monitor.{monitor-lawful}
+use Rattle.mtas.proofs.Answered.{is-accepted, is-refused, gives}
 
 -- ---- refusal 14
 module _ (st : State) (L : Lawful st) (c i r : ℕ) where
@@ -147,23 +99,6 @@ module _ (st : State) (L : Lawful st) (c i r : ℕ) where
       go (no n) (h, x) = inr (h, on-public n x)
 
 -- ---- on words and bytes
-module _ (ws b : List ℕ) {c : ℕ} {k : Call} (W : LawfulWords ws) (d : decode b ≡ request c k) where
-  refusal-is : (monitor ws b) .answer .refusal ≡ answer (view ws) c k .refusal
-  refusal-is = ap (λ x. x .answer .refusal) (monitor-lawful ws b W) ∙ ap (λ x. answered (view ws) x .refusal) d
-
-  is-accepted : (monitor ws b) .answer .refusal ≡ 0 → outcome (view ws) c k ≡ accepted
-  is-accepted z = zero-accepted (view ws) c k (sym refusal-is ∙ z)
-
-  is-refused : (monitor ws b) .answer .refusal ≡ 14 → outcome (view ws) c k ≡ refused 14
-  is-refused h = go (outcome (view ws) c k) refl
-    where
-      go : (o : Outcome) → outcome (view ws) c k ≡ o → o ≡ refused 14
-      go accepted e = let z : _≡_ {A = ℕ} 0 14 = sym (accepted-zero (view ws) c k e) ∙ sym refusal-is ∙ h in absurd (omega arith)
-      go (refused n) e = ap refused (sym (ap (λ a. a .refusal) (refused-answer (view ws) c k n e)) ∙ sym refusal-is ∙ h)
-
-  gives-14 : outcome (view ws) c k ≡ refused 14 → (monitor ws b) .answer .refusal ≡ 14
-  gives-14 e = refusal-is ∙ ap (λ a. a .refusal) (refused-answer (view ws) c k 14 e)
-
 pub public-roles : PublicRoles
 public-roles = record {
   public-present = λ ws W i r h. W .lawful .supported (public i r) (role i r) h here;
@@ -171,8 +106,8 @@ public-roles = record {
   attachments-on-public = λ ws W j q i r n h. on-public (view ws) (W .lawful) j i r n (W .lawful .supported (attached j q i r) (exposed j i r) h (there (there here)));
   can-use = λ ws b {c} {i} {r} W t d z. used (view ws) (W .lawful) c i r t (is-accepted ws b W d z);
   private-iff = λ ws b {c} {i} {r} W t d. (
-    λ h. outcome-iff (view ws) (W .lawful) c i r t .0 (is-refused ws b W d h),
-    λ x. gives-14 ws b W d (outcome-iff (view ws) (W .lawful) c i r t .1 x),
+    λ h. outcome-iff (view ws) (W .lawful) c i r t .0 (is-refused ws b W d 14 (omega arith) h),
+    λ x. gives ws b W d 14 (outcome-iff (view ws) (W .lawful) c i r t .1 x),
   );
   starts-private = λ ws b c r W d z.
       rw (monitor-lawful ws b W, d, view-encode (next (view ws) c (AddRole r)) (next-lawful (view ws) (W .lawful) c (AddRole r)), leaves (view ws) c (AddRole r) (is-accepted ws b W d z))

@@ -8,7 +8,7 @@ use Rattle.bits.proofs.Booleans.{clash, untrue}
 use Rattle.bits.proofs.Below.{find-cases, find-finds, find-passes}
 use Rattle.mtas.specs.Fact.{opened}
 use Rattle.mtas.specs.State.{State, user-of}
-use Rattle.mtas.specs.Law.{Lawful}
+use Rattle.mtas.proofs.Law.{Rooted}
 
 module _ (st : State) (i s : ℕ) where
   abbrev open-for : ℕ → Bool
@@ -23,12 +23,12 @@ module _ (st : State) (i s : ℕ) where
   pub user-finds : (u : ℕ) → u < 16 → st .stands (opened i s u) ≡ true → st .stands (opened i s (user-of st i s)) ≡ true
   user-finds u l h = find-finds 16 open-for 65535 u l h
 
-module _ (st : State) (L : Lawful st) (i s : ℕ) where
+module _ (st : State) (R : Rooted st) (i s : ℕ) where
   open-found : (u : ℕ) → st .stands (opened i s u) ≡ true → st .stands (opened i s (user-of st i s)) ≡ true
-  open-found u h = user-finds st i s u ((L .numbered (opened i s u) h) .1 .1 .0) h
+  open-found u h = user-finds st i s u ((R .numbered (opened i s u) h) .1 .1 .0) h
 
   pub user-is : (u : ℕ) → st .stands (opened i s u) ≡ true → user-of st i s ≡ u
-  user-is u h = L .one-user i s (user-of st i s) u (open-found u h) h
+  user-is u h = R .one-user i s (user-of st i s) u (open-found u h) h
 
   -- a closed session is open for nobody
   pub closed : st .stands (opened i s (user-of st i s)) ≡ false → (u : ℕ) → st .stands (opened i s u) ≡ false

@@ -14,14 +14,15 @@ use Rattle.mtas.specs.Rule.{issuer's, rule}
 use Rattle.mtas.specs.Answer.{refuses, Outcome, accepted, refused, outcome, change, after, answer, next}
 use Rattle.mtas.proofs.Facts.{All, all-in, in-one, put-new}
 use Rattle.mtas.proofs.Hierarchy.{reaches-complete}
-use Rattle.mtas.proofs.Law.{attachments-numbered, cut-lawful, put-lawful, put-one-lawful, put-acyclic, attach-acyclic}
+use Rattle.mtas.proofs.Authorized.{attachments-numbered, authorized-sound}
+use Rattle.mtas.proofs.Law.{rooted, cut-lawful, put-lawful, put-one-lawful, put-acyclic, attach-acyclic}
 use Rattle.mtas.proofs.Sessions.{closed}
 use Rattle.mtas.proofs.Guards.{Admitted, Passed, passed}
 
 pub differ : _≡_ {A = ℕ} 0 1 → ⊥
 differ z = omega arith
 
--- the facts that open no session and attach no role
+-- the facts that open no session, attach no role and activate none
 abbrev plain : Fact → Bool
 plain (enrolled i) = true
 plain (trusts i j) = true
@@ -33,7 +34,7 @@ plain (holds i u r) = true
 plain (granted j p i r) = true
 plain (attached j q i r) = false
 plain (opened i s u) = false
-plain (active i s u r) = true
+plain (active i s u r) = false
 
 module _ (st : State) (L : Lawful st) where
   no-link : {f : Fact} → plain f ≡ true → (j q i r : ℕ) → f ≡ attached j q i r → ⊥
@@ -43,7 +44,7 @@ module _ (st : State) (L : Lawful st) where
   put-plain : (f : Fact) → All (λ g. st .stands g ≡ true) (needs f) → Below16 (numbers f) → plain f ≡ true → Lawful (put (f ∷ []) st)
   put-plain f sup num h =
       put-one-lawful st L f sup num (λ i s u v e. absurd (clash h (ap plain e)))
-      (put-acyclic st L (f ∷ []) (λ j q i r m. no-link h j q i r (in-one m)))
+      (put-acyclic st L (f ∷ []) (λ j q i r m. no-link h j q i r (in-one m))) (λ i s u r e. absurd (clash h (ap plain e)))
 
   trusts-itself : (i : ℕ) → st .stands (enrolled i) ≡ true → st .stands (trusts i i) ≡ true
   trusts-itself i h = L .supported (enrolled i) (trusts i i) h here
@@ -59,6 +60,7 @@ module _ (st : State) (L : Lawful st) where
       (λ f m. all-in (λ x. Below16 (numbers x)) (let a = p .front .small in omega arith) m)
       (λ j s u v m h. absurd (clash (all-in (λ y. plain y ≡ true) (refl, (refl, tt)) m) refl))
       (put-acyclic st L (enrolment i) (λ j q k r m. clash (all-in (λ y. plain y ≡ true) (refl, (refl, tt)) m) refl))
+      (λ j s u r m. absurd (clash (all-in (λ y. plain y ≡ true) (refl, (refl, tt)) m) refl))
     where
       e : (put (enrolment i) st) .stands (enrolled i) ≡ true
       e = put-new (enrolment i) st here
@@ -80,19 +82,25 @@ module _ (st : State) (L : Lawful st) where
   keeps c (RevokePerm x i r) p = cut-lawful st L (granted c x i r)
   keeps c (AssignRH q i r) p =
       put-one-lawful st L (attached c q i r) (let e = p .front .known refl in search trusts-itself) (own c (q ∷ i ∷ r ∷ []) (p .front)) (λ i s u v e. cc)
-      (attach-acyclic st L c q i r (λ w. clash (reaches-complete (attachments st) (attachments-numbered st (L .numbered)) w) (p .own .1 .1 .1 .1 .1 .1 .0)))
+      (attach-acyclic st L c q i r (λ w. clash (reaches-complete (attachments st) (attachments-numbered st (L .numbered)) w) (p .own .1 .1 .1 .1 .1 .1 .0))) (λ k s u t e. absurd (differ (cc)))
   keeps c (RevokeRH q i r) p = cut-lawful st L (attached c q i r)
   keeps c (CreateSession s u) p =
       put-one-lawful st L (opened c s u) (let e = p .front .known refl in search trusts-itself) (own c (s ∷ u ∷ []) (p .front))
-      (λ i t v w e. let e0 : c ≡ i = cc in let e1 : s ≡ t = cc in rw (← e0, ← e1) (closed st L c s (p .own .1 .0) w))
-      (put-acyclic st L (opened c s u ∷ []) (λ j q i r m. let n : opened c s u ≡ attached j q i r = in-one m in differ (cc)))
+      (λ i t v w e. let e0 : c ≡ i = cc in let e1 : s ≡ t = cc in rw (← e0, ← e1) (closed st (rooted L) c s (p .own .1 .0) w))
+      (put-acyclic st L (opened c s u ∷ []) (λ j q i r m. let n : opened c s u ≡ attached j q i r = in-one m in differ (cc))) (λ i t v r e. absurd (differ (cc)))
   keeps c (DeleteSession s) p = cut-lawful st L (opened c s (user-of st c s))
   keeps c (AddActiveRole s r) p =
       let e = p .front .known refl in
       let a = L .numbered (opened c s (user-of st c s)) (p .own .1 .0) in
-      let b = L .numbered (holds c (user-of st c s) r) (p .own .1 .1 .0) in
-      let u = L .supported (holds c (user-of st c s) r) (user c (user-of st c s)) (p .own .1 .1 .0) here in
-      put-plain (active c s (user-of st c s) r) (search trusts-itself) (omega arith) refl
+      let b = L .numbered (role c r) (p .own .0) in
+      let u = L .supported (opened c s (user-of st c s)) (user c (user-of st c s)) (p .own .1 .0) here in
+      put-one-lawful st L (active c s (user-of st c s) r) (search trusts-itself) (omega arith) (λ i t v w x. cc)
+      (put-acyclic st L (active c s (user-of st c s) r ∷ []) (λ j q i k m. let n : active c s (user-of st c s) r ≡ attached j q i k = in-one m in differ (cc)))
+      (λ i t v k x.
+      let e0 : c ≡ i = cc in
+      let e1 : user-of st c s ≡ v = cc in
+      let e2 : r ≡ k = cc in
+      rw (← e0, ← e1, ← e2) (authorized-sound st (attachments st) c (user-of st c s) r (p .own .1 .1 .0)))
   keeps c (DropActiveRole s r) p = cut-lawful st L (active c s (user-of st c s) r)
   keeps c (CheckAccess x i s) p = L
   keeps c (PublishRole r) p = put-plain (public c r) (let e = p .front .known refl in search trusts-itself) (own c (r ∷ []) (p .front)) refl

@@ -6,27 +6,22 @@ use Rattle.bits.specs.Below.{any-below}
 use Rattle.bits.specs.Bit.{digit}
 use Rattle.bits.proofs.Booleans.{clash, untrue}
 use Rattle.bits.proofs.Below.{any-ext, any-both-elim, find-ext}
-use Rattle.mtas.specs.Fact.{enrolled, trusts, role, public, granted, attached, opened, active}
-use Rattle.mtas.specs.State.{State, user-of}
+use Rattle.mtas.specs.Fact.{enrolled, trusts, role, public, granted, opened, active}
+use Rattle.mtas.specs.State.{State, cut, user-of}
 use Rattle.mtas.specs.Hierarchy.{Role, _#_, Graph}
 use Rattle.mtas.specs.Law.{attachments, holders-of}
 use Rattle.mtas.specs.Call.{Call}
 use Rattle.mtas.specs.Rule.{Effect, puts, cuts, decides, rule}
 use Rattle.mtas.specs.Answer.{accepts, Outcome, accepted, refused, outcome, leads-to, may-use, decides-on, verdict-of, change, reply, after, answer, next}
 use Rattle.mtas.proofs.Facts.{put-agree, cut-agree}
-use Rattle.mtas.proofs.Law.{attachments-numbered, grant-trust, link-trust}
-use Rattle.mtas.proofs.Walks.{Carries, Twin, reaches-same, leads-same, leads-from-inside}
+use Rattle.mtas.proofs.Authorized.{attachments-numbered}
+use Rattle.mtas.proofs.Law.{grant-trust, cut-rooted}
+use Rattle.mtas.proofs.Walks.{Twin, reaches-same, leads-same, leads-from-inside}
 use Rattle.mtas.proofs.Alike.{SeenAlike, row-alike, outcome-alike}
-use Rattle.mtas.proofs.Isolation.{Secure, Agree, trust-inside, trustor-inside}
+use Rattle.mtas.proofs.Isolation.{Secure, Agree, carries, authorized-same, settle-agree, trust-inside, trustor-inside, upwards, cut-upwards}
 
 module _ (inside : ℕ → Bool) (op : inside 16 ≡ true) where
-  -- what leads to a member's role or permission comes from inside, by links that stand in members' names
   module _ (st st' : State) (S : Secure inside st) (S' : Secure inside st') (A : Agree inside st st') where
-    carries : Carries inside (attachments st) (attachments st')
-    carries a b h e =
-        let link = attached (b .issuer) (b .number) (a .issuer) (a .number) in
-        (trustor-inside inside op st S (a .issuer) (b .issuer) (link-trust st (S .lawful) e) h, sym (A link h) ∙ e)
-
     pub user-same : (i s : ℕ) → inside i ≡ true → user-of st i s ≡ user-of st' i s
     user-same i s h = find-ext 16 (λ u. st .stands (opened i s u)) (λ u. st' .stands (opened i s u)) 65535 (λ u. A (opened i s u) h)
 
@@ -34,10 +29,11 @@ module _ (inside : ℕ → Bool) (op : inside 16 ≡ true) where
     abbrev A' : Agree inside st' st
     A' f o = sym (A f o)
 
+    -- what leads to a member's role or permission comes from inside, by links that stand in members' names
     twin : (j p : ℕ) → inside j ≡ true → Twin inside (attachments st) (attachments st') (holders-of st j p) (holders-of st' j p)
     twin j p h = record {
-      there = carries st st' S S' A;
-      back = carries st' st S' S A';
+      there = carries inside st st' (upwards inside op st S) A;
+      back = carries inside st' st (upwards inside op st' S') A';
       numbered = attachments-numbered st (S .lawful .numbered);
       numbered' = attachments-numbered st' (S' .lawful .numbered);
       same = λ b. A (granted j p (b .issuer) (b .number)) h;
@@ -81,8 +77,9 @@ module _ (inside : ℕ → Bool) (op : inside 16 ≡ true) where
         of-roles = λ i r t. A (role i r) (trustor-inside inside op st S i c t h);
         of-public = λ i r t. A (public i r) (trustor-inside inside op st S i c t h);
         of-reach = λ q i r t.
-            reaches-same inside (carries st st' S S' A) (carries st' st S' S A') (attachments-numbered st (S .lawful .numbered)) (attachments-numbered st' (S' .lawful .numbered)) (c # q) (i # r)
+            reaches-same inside (carries inside st st' (upwards inside op st S) A) (carries inside st' st (upwards inside op st' S') A') (attachments-numbered st (S .lawful .numbered)) (attachments-numbered st' (S' .lawful .numbered)) (c # q) (i # r)
             (trustor-inside inside op st S i c t h);
+        of-authorized = λ u r. authorized-same inside st st' (S .lawful .numbered) (S' .lawful .numbered) (upwards inside op st S) (upwards inside op st' S') A c u r h;
       }
 
       verdict-same : (e : Effect) → verdict-of st c e ≡ verdict-of st' c e
@@ -99,9 +96,11 @@ module _ (inside : ℕ → Bool) (op : inside 16 ≡ true) where
       answer-same = let r = row-alike st st' c alike k in let o = outcome-alike st st' c alike k in let q = reply-same (rule (user-of st c) c k .effect) (outcome st c k) in cc
 
       change-same : (e : Effect) → Agree inside (change e st) (change e st')
-      change-same (puts l) f o = put-agree l st st' f (A f o)
-      change-same (cuts x) f o = cut-agree x st st' f (A f o)
-      change-same (decides p i s) f o = A f o
+      change-same (puts l) = λ f o. put-agree l st st' f (A f o)
+      change-same (cuts x) =
+          settle-agree inside (cut x st) (cut x st') (cut-rooted st (S .lawful) x .numbered) (cut-rooted st' (S' .lawful) x .numbered)
+          (cut-upwards inside op st S x) (cut-upwards inside op st' S' x) (λ f o. cut-agree x st st' f (A f o))
+      change-same (decides p i s) = A
 
       after-same : (e : Effect) (o : Outcome) → Agree inside (after st e o) (after st' e o)
       after-same e accepted = change-same e

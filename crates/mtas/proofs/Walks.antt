@@ -6,6 +6,9 @@ use Rattle.bits.specs.Below.{any-below}
 use Rattle.bits.proofs.Booleans.{same-test}
 use Rattle.bits.proofs.Below.{any-ext}
 use Rattle.mtas.specs.Hierarchy.{Role, _#_, Graph, Reaches, itself, down, reaches}
+use Rattle.mtas.specs.Fact.{holds}
+use Rattle.mtas.specs.State.{State}
+use Rattle.mtas.specs.Law.{Authorized}
 use Rattle.mtas.specs.Answer.{leads-to}
 use Rattle.mtas.proofs.Hierarchy.{Numbered, reaches-sound, reaches-complete}
 use Rattle.mtas.proofs.Decision.{leads-to-sound}
@@ -15,12 +18,17 @@ module _ (inside : ℕ → Bool) where
   abbrev pub Carries : Graph → Graph → Type 0
   Carries e e' = (a b : Role) → inside (b .issuer) ≡ true → e a b ≡ true → (inside (a .issuer) ≡ true) × (e' a b ≡ true)
 
-  from-inside : {e e' : Graph} → Carries e e' → {a b : Role} → Reaches e a b → inside (b .issuer) ≡ true → (inside (a .issuer) ≡ true) × Reaches e' a b
+  pub from-inside : {e e' : Graph} → Carries e e' → {a b : Role} → Reaches e a b → inside (b .issuer) ≡ true → (inside (a .issuer) ≡ true) × Reaches e' a b
   from-inside k itself h = (h, itself)
   from-inside k (down {b} {c} p e) h =
       let (t, l) = k b c h e in
       let (i, q) = from-inside k p t in
       (i, down q l)
+
+  -- so an inside user is authorized in both
+  pub authorized-inside : {e e' : Graph} → Carries e e' → {st st' : State} {i u r : ℕ} → inside i ≡ true → ((h : ℕ) → st .stands (holds i u h) ≡ true → st' .stands (holds i u h) ≡ true)
+      → Authorized st e i u r → Authorized st' e' i u r
+  authorized-inside k h m A = record { through = A .through; is-held = m (A .through) (A .is-held); is-reached = (from-inside k (A .is-reached) h) .1 }
 
   -- two graphs, each with a test of roles
   pub record Twin (e e' : Graph) (t t' : Role → Bool) : Type 0 where

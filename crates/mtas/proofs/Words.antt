@@ -19,13 +19,14 @@ use Rattle.mtas.specs.Law.{Lawful}
 use Rattle.mtas.specs.Layout.{Word, session-user, Cell, sixteen, its-user, in-session, cell, Place, bit-of, user-in, bit-while, place, state-length, address, word-at, contents, encode, read, tells, says, view}
 use Rattle.mtas.specs.LawTest.{Fits, LawfulWords}
 use Rattle.mtas.proofs.Facts.{below-16, none-above-15}
+use Rattle.mtas.proofs.Law.{Rooted, rooted}
 use Rattle.mtas.proofs.Sessions.{user-cases, user-passes, user-finds, user-is}
 use Rattle.mtas.proofs.Address.{word-numbers, address-below, word-at-address, address-word-at, word-at-numbered}
 use Rattle.mtas.proofs.Cells.{Says, said-there, Placed, placed, PlaceNumbered, place-numbered}
 
 -- ---- the words of a state
 module _ (st : State) where
-  encode-length : length (encode st) ≡ state-length
+  pub encode-length : length (encode st) ≡ state-length
   unfolding encode
   encode-length = length-tabulate state-length (λ k. contents st (cell (word-at k)))
 
@@ -70,8 +71,8 @@ module _ (ws : List ℕ) where
   pub view-opened : (i s u : ℕ) → (view ws) .stands (opened i s u) ≡ true → read ws (session-user i s) ≡ u
   view-opened i s u h = eqb-true (read ws (session-user i s)) u (sym (view-says (opened i s u) (view-numbered (opened i s u) h)) ∙ h)
 
--- ---- a lawful state is what its words say
-module _ (st : State) (L : Lawful st) where
+-- ---- a lawful state is what its words say, and so is one that was cut and isn't settled yet
+module _ (st : State) (R : Rooted st) where
   says-encode : (f : Fact) → Below16 (numbers f) → says (encode st) f ≡ st .stands f
   says-encode f h = go (place f) (said-there f) (place-numbered f .0 h)
     where
@@ -79,23 +80,26 @@ module _ (st : State) (L : Lawful st) where
       go (bit-of w n) (g, e, q) (b, l) = ap (λ x. bit x n) (read-encode st w b ∙ ap (contents st) e) ∙ bit-pack 16 (λ k. st .stands (g k)) n l ∙ ap (λ x. st .stands x) (sym q)
       go (user-in i s u) q (li, ls, lu) =
           rw (q, read-encode st (session-user i s) (omega arith))
-          (same-test _ _ (λ e. let q = eqb-true (user-of st i s) u e in rw q at (user-passes st i s (omega arith))) (λ e. eq-eqb (user-of st i s) u (user-is st L i s u e)))
+          (same-test _ _ (λ e. let q = eqb-true (user-of st i s) u e in rw q at (user-passes st i s (omega arith))) (λ e. eq-eqb (user-of st i s) u (user-is st R i s u e)))
       go (bit-while i s u w n) (g, e, q, m) (li, ls, lu, b, l) =
           rw (q, read-encode st (session-user i s) (omega arith), read-encode st w b ∙ ap (contents st) e, bit-pack 16 (λ k. st .stands (g (user-of st i s) k)) n l)
           (by (eqb (user-of st i s) u) refl)
         where
           by : (t : Bool) → eqb (user-of st i s) u ≡ t → t && st .stands (g (user-of st i s) n) ≡ st .stands (g u n)
           by true t = ap (λ x. st .stands (g x n)) (eqb-true (user-of st i s) u t)
-          by false t = sym (untrue _ (λ a. clash (eq-eqb (user-of st i s) u (user-is st L i s u (L .supported (g u n) (opened i s u) a (rw q at m)))) t))
+          by false t = sym (untrue _ (λ a. clash (eq-eqb (user-of st i s) u (user-is st R i s u (R .supported (g u n) (opened i s u) a (rw q at m)))) t))
 
-  pub view-encode : view (encode st) ≡ st
-  view-encode = λ t. record { stands = λ f. agree f t }
+  pub view-rooted : view (encode st) ≡ st
+  view-rooted = λ t. record { stands = λ f. agree f t }
     where
       stands-same : (f : Fact) → Below16 (numbers f) → (view (encode st)) .stands f ≡ st .stands f
       stands-same f h = view-says (encode st) f h ∙ says-encode f h
 
       agree : (f : Fact) → (view (encode st)) .stands f ≡ st .stands f
-      agree f = same-test _ _ (λ e. sym (stands-same f (view-numbered (encode st) f e)) ∙ e) (λ e. stands-same f (L .numbered f e) ∙ e)
+      agree f = same-test _ _ (λ e. sym (stands-same f (view-numbered (encode st) f e)) ∙ e) (λ e. stands-same f (R .numbered f e) ∙ e)
+
+pub view-encode : (st : State) → Lawful st → view (encode st) ≡ st
+view-encode st L = view-rooted st (rooted L)
 
 -- ---- lawful words are those of the state that they say
 

@@ -8,6 +8,7 @@ use Rattle.mtas.specs.Fact.{active}
 use Rattle.mtas.specs.State.{State, put, cut, user-of}
 use Rattle.mtas.specs.Hierarchy.{Role, _#_, Graph, reaches}
 use Rattle.mtas.specs.Law.{attachments, holders-of}
+use Rattle.mtas.specs.Settle.{settle}
 use Rattle.mtas.specs.Call.{Call}
 use Rattle.mtas.specs.Rule.{Guard, cause, applies, Effect, puts, cuts, decides, rule, guards}
 
@@ -54,7 +55,7 @@ verdict-of st c (decides p i s) = digit (decides-on st c p i s)
 
 abbrev pub change : Effect → State → State
 change (puts l) st = put l st
-change (cuts f) st = cut f st
+change (cuts f) st = settle (cut f st)
 change (decides p i s) st = st
 
 -- a refusal changes nothing

@@ -1,4 +1,4 @@
--- What each accepted call leaves, in the sentences of document 01 ('Cascades, all within the one call') and of Card 1. Proved of put and cut in proofs/.
+-- What each accepted call leaves, in the sentences of document 01 ('Cascades, all within the one call') and of Cards 1 and 2. Proved of put, cut and settle in proofs/.
 use mathlib.Core.Path.{_≡_}
 use mathlib.Core.Logic.{_≢_}
 use mathlib.Core.Bool.{true, false}
@@ -6,6 +6,7 @@ use Prim.Native.Nat.{ℕ}
 use Rattle.mtas.specs.Fact.{Fact, enrolled, trusts, user, role, permission, public, holds, granted, attached, opened, active}
 use Rattle.mtas.specs.State.{State}
 use Rattle.mtas.specs.Law.{Lawful}
+use Rattle.mtas.specs.Settle.{Unreached}
 use Rattle.mtas.specs.Call.{Call, AddIssuer, RemoveIssuer, AssignTrust, RevokeTrust, AddUser, RemoveUser, AddRole, RemoveRole, AddPerm, RemovePerm, AssignUser, RevokeUser, AssignPerm, RevokePerm, AssignRH, RevokeRH, CreateSession, DeleteSession, AddActiveRole, DropActiveRole, CheckAccess, PublishRole, UnpublishRole}
 use Rattle.mtas.specs.Answer.{accepted, outcome, next}
 
@@ -13,6 +14,12 @@ use Rattle.mtas.specs.Answer.{accepted, outcome, next}
 pub record Clears (Gone : Fact → Type 0) (before after : State) : Type 0 where
   pub gone : (f : Fact) → Gone f → after .stands f ≡ false
   pub kept : (f : Fact) → (Gone f → ⊥) → after .stands f ≡ before .stands f
+
+-- exactly these facts go, and of the rest exactly the active roles that no held role reaches any more: 'dropped in the call that breaks its reach' (Card 2)
+pub record Breaks (Gone : Fact → Type 0) (before after : State) : Type 0 where
+  pub gone : (f : Fact) → Gone f → after .stands f ≡ false
+  pub dropped : (f : Fact) → Unreached after f → after .stands f ≡ false
+  pub kept : (f : Fact) → (Gone f → ⊥) → (Unreached after f → ⊥) → after .stands f ≡ before .stands f
 
 -- exactly these facts come
 pub record Adds (New : Fact → Type 0) (before after : State) : Type 0 where
@@ -46,11 +53,6 @@ pub data RoleRemoved (i r : ℕ) : Fact → Type 0 where
 pub data PermissionRemoved (j p : ℕ) : Fact → Type 0 where
   the-permission : PermissionRemoved j p (permission j p)
   its-grants : {i r : ℕ} → PermissionRemoved j p (granted j p i r)
-
--- 'Taking a role drops it from that user's sessions'
-pub data RoleTaken (i u r : ℕ) : Fact → Type 0 where
-  the-holding : RoleTaken i u r (holds i u r)
-  in-sessions : {s : ℕ} → RoleTaken i u r (active i s u r)
 
 -- 'Striking an issuer clears everything it owns, its roles in others' words and its trust both ways; its sessions close'
 pub data Struck (i : ℕ) : Fact → Type 0 where
@@ -99,21 +101,22 @@ Only f g = g ≡ f
 
 pub record Cascades : Type 0 where
   pub enrols : (c i : ℕ) → OnAcceptance c (AddIssuer i) (Adds (Enrolled i))
-  pub strikes : (c i : ℕ) → OnAcceptance c (RemoveIssuer i) (Clears (Struck i))
+  pub strikes : (c i : ℕ) → OnAcceptance c (RemoveIssuer i) (Breaks (Struck i))
   pub gives-trust : (c j : ℕ) → OnAcceptance c (AssignTrust j) (Adds (Only (trusts c j)))
-  pub withdraws-trust : (c j : ℕ) → OnAcceptance c (RevokeTrust j) (Clears (Withdrawn c j))
+  pub withdraws-trust : (c j : ℕ) → OnAcceptance c (RevokeTrust j) (Breaks (Withdrawn c j))
   pub adds-user : (c u : ℕ) → OnAcceptance c (AddUser u) (Adds (Only (user c u)))
   pub removes-user : (c u : ℕ) → OnAcceptance c (RemoveUser u) (Clears (UserRemoved c u))
   pub adds-role : (c r : ℕ) → OnAcceptance c (AddRole r) (Adds (Only (role c r)))
-  pub removes-role : (c r : ℕ) → OnAcceptance c (RemoveRole r) (Clears (RoleRemoved c r))
+  pub removes-role : (c r : ℕ) → OnAcceptance c (RemoveRole r) (Breaks (RoleRemoved c r))
   pub adds-permission : (c p : ℕ) → OnAcceptance c (AddPerm p) (Adds (Only (permission c p)))
   pub removes-permission : (c p : ℕ) → OnAcceptance c (RemovePerm p) (Clears (PermissionRemoved c p))
   pub gives-role : (c u r : ℕ) → OnAcceptance c (AssignUser u r) (Adds (Only (holds c u r)))
-  pub takes-role : (c u r : ℕ) → OnAcceptance c (RevokeUser u r) (Clears (RoleTaken c u r))
+  -- 'taking a role drops nothing still reached': the role itself goes from that user's sessions only where no other held role reaches it
+  pub takes-role : (c u r : ℕ) → OnAcceptance c (RevokeUser u r) (Breaks (Only (holds c u r)))
   pub grants : (c p i r : ℕ) → OnAcceptance c (AssignPerm p i r) (Adds (Only (granted c p i r)))
   pub ungrants : (c p i r : ℕ) → OnAcceptance c (RevokePerm p i r) (Clears (Only (granted c p i r)))
   pub attaches : (c q i r : ℕ) → OnAcceptance c (AssignRH q i r) (Adds (Only (attached c q i r)))
-  pub detaches : (c q i r : ℕ) → OnAcceptance c (RevokeRH q i r) (Clears (Only (attached c q i r)))
+  pub detaches : (c q i r : ℕ) → OnAcceptance c (RevokeRH q i r) (Breaks (Only (attached c q i r)))
   pub opens : (c s u : ℕ) → OnAcceptance c (CreateSession s u) (Adds (Only (opened c s u)))
   -- 'Kind 17 opens with no active role'
   pub opens-idle : (c s u : ℕ) → OnAcceptance c (CreateSession s u) (λ before after. (v r : ℕ) → after .stands (active c s v r) ≡ false)
@@ -123,4 +126,4 @@ pub record Cascades : Type 0 where
   pub deactivates : (c s r : ℕ) → OnAcceptance c (DropActiveRole s r) (Clears (Deactivated c s r))
   pub checks : (c p i s : ℕ) → OnAcceptance c (CheckAccess p i s) (λ before after. after ≡ before)
   pub publishes : (c r : ℕ) → OnAcceptance c (PublishRole r) (Adds (Only (public c r)))
-  pub unpublishes : (c r : ℕ) → OnAcceptance c (UnpublishRole r) (Clears (Unpublished c r))
+  pub unpublishes : (c r : ℕ) → OnAcceptance c (UnpublishRole r) (Breaks (Unpublished c r))

@@ -1,4 +1,4 @@
--- Document 01's twelve press-house cases, as one table and one statement; further cases that a wrong walk, guard or cascade would fail; and Card 1's.
+-- Document 01's twelve press-house cases, as one table and one statement; further cases that a wrong walk, guard or cascade would fail; and Card 1's and 2's.
 use mathlib.Core.Path.{_≡_}
 use mathlib.Core.List.{List, [], _∷_, _++_}
 use mathlib.Core.Bool.{false}
@@ -143,6 +143,75 @@ indoor-cases =
     ∷ try [] (record-of 23 0 (3 ∷ [])) (refuses 12) (public 0 3 ∷ [])
     -- 'a role starts private', also one that was public before it was removed
     ∷ try (record-of 8 0 (2 ∷ []) ∷ record-of 7 0 (2 ∷ []) ∷ []) (record-of 13 1 (5 ∷ 0 ∷ 2 ∷ [])) (refuses 14) (public 0 2 ∷ [])
+    ∷ []
+
+-- Card 2: 'A cellar master works as a press hand'. 0#3 is attached below 0#2, which 0@3 holds, and active in 0/4.
+abbrev lesser-role : History
+lesser-role = record-of 15 0 (3 ∷ 0 ∷ 2 ∷ []) ∷ record-of 19 0 (4 ∷ 3 ∷ []) ∷ []
+
+-- the same by way of another estate: 1#6, public, is attached below 0#2, 1 trusts 0, and 0#3 is attached below 1#6
+abbrev by-way-of-1 : History
+by-way-of-1 =
+    record-of 7 1 (6 ∷ []) ∷ record-of 22 1 (6 ∷ []) ∷ record-of 15 1 (6 ∷ 0 ∷ 2 ∷ []) ∷ record-of 3 1 (0 ∷ []) ∷ record-of 15 0 (3 ∷ 1 ∷ 6 ∷ [])
+    ∷ record-of 19 0 (4 ∷ 3 ∷ []) ∷ []
+
+-- 0#3 has 0%1, and 0#2 is no longer active: the hour
+abbrev an-hour : History
+an-hour = record-of 9 0 (1 ∷ []) ∷ record-of 13 0 (1 ∷ 0 ∷ 3 ∷ []) ∷ record-of 20 0 (4 ∷ 2 ∷ []) ∷ []
+
+-- 0@6, who holds 0#7 above 0#3, has 0#3 active in 0/9
+abbrev another's : History
+another's =
+    record-of 5 0 (6 ∷ []) ∷ record-of 7 0 (7 ∷ []) ∷ record-of 11 0 (6 ∷ 7 ∷ []) ∷ record-of 15 0 (3 ∷ 0 ∷ 7 ∷ [])
+    ∷ record-of 17 0 (9 ∷ 6 ∷ []) ∷ record-of 19 0 (9 ∷ 3 ∷ []) ∷ []
+
+-- what may be activated
+abbrev pub lesser-cases : List Case
+lesser-cases =
+    -- the lesser role is activated and used; what only the senior has is not
+    try (record-of 15 0 (3 ∷ 0 ∷ 2 ∷ []) ∷ []) (record-of 19 0 (4 ∷ 3 ∷ [])) (accepts 0) (holds 0 3 3 ∷ [])
+    ∷ try (lesser-role ++ an-hour) (record-of 21 0 (1 ∷ 0 ∷ 4 ∷ [])) (accepts 1) (holds 0 3 3 ∷ active 0 4 3 2 ∷ [])
+    ∷ try (lesser-role ++ an-hour) (record-of 21 1 (5 ∷ 0 ∷ 4 ∷ [])) (accepts 0) []
+    ∷ try lesser-role (record-of 19 0 (4 ∷ 3 ∷ [])) (refuses 12) []
+    -- a senior isn't reached, nor what only another user's role reaches; 10 comes first
+    ∷ try (record-of 15 0 (2 ∷ 0 ∷ 3 ∷ []) ∷ []) (record-of 19 0 (4 ∷ 3 ∷ [])) (refuses 11) []
+    ∷ try another's (record-of 19 0 (4 ∷ 3 ∷ [])) (refuses 11) []
+    ∷ try [] (record-of 19 0 (5 ∷ 3 ∷ [])) (refuses 10) []
+    ∷ try [] (record-of 19 0 (4 ∷ 7 ∷ [])) (refuses 10) (role 0 7 ∷ [])
+    ∷ []
+
+-- after a history 0 deactivates 0#3 in 0/4: that is done where it is active still, and refused where it was dropped
+abbrev still-active : History → List Fact → Case
+still-active h gone = try h (record-of 20 0 (4 ∷ 3 ∷ [])) (accepts 0) gone
+
+abbrev was-dropped : History → List Fact → Case
+was-dropped h gone = try h (record-of 20 0 (4 ∷ 3 ∷ [])) (refuses 12) (active 0 4 3 3 ∷ gone)
+
+-- what is dropped and what stays
+abbrev pub dropped-cases : List Case
+dropped-cases =
+    -- detached it is dropped, and attached again it stays dropped
+    was-dropped (lesser-role ++ (record-of 16 0 (3 ∷ 0 ∷ 2 ∷ []) ∷ [])) []
+    ∷ try (lesser-role ++ (record-of 16 0 (3 ∷ 0 ∷ 2 ∷ []) ∷ [])) (record-of 19 0 (4 ∷ 3 ∷ [])) (refuses 11) []
+    ∷ was-dropped (lesser-role ++ (record-of 16 0 (3 ∷ 0 ∷ 2 ∷ []) ∷ record-of 15 0 (3 ∷ 0 ∷ 2 ∷ []) ∷ [])) []
+    -- the held role is taken, or removed: both go
+    ∷ was-dropped (lesser-role ++ (record-of 12 0 (3 ∷ 2 ∷ []) ∷ [])) (holds 0 3 2 ∷ active 0 4 3 2 ∷ [])
+    ∷ was-dropped (lesser-role ++ (record-of 8 0 (2 ∷ []) ∷ [])) (active 0 4 3 2 ∷ attached 0 3 0 2 ∷ [])
+    -- 'taking a role drops nothing still reached': 0@3 holds 0#1 too, above 0#3
+    ∷ still-active (lesser-role ++ (record-of 7 0 (1 ∷ []) ∷ record-of 11 0 (3 ∷ 1 ∷ []) ∷ record-of 15 0 (3 ∷ 0 ∷ 1 ∷ []) ∷ record-of 12 0 (3 ∷ 2 ∷ []) ∷ [])) (holds 0 3 2 ∷ active 0 4 3 2 ∷ [])
+    -- held itself for a while, it stays when that is taken
+    ∷ still-active (lesser-role ++ (record-of 11 0 (3 ∷ 3 ∷ []) ∷ record-of 12 0 (3 ∷ 3 ∷ []) ∷ [])) (holds 0 3 3 ∷ [])
+    -- another's session keeps its own
+    ∷ try (lesser-role ++ (another's ++ (record-of 12 0 (3 ∷ 2 ∷ []) ∷ []))) (record-of 20 0 (9 ∷ 3 ∷ [])) (accepts 0) (active 0 4 3 3 ∷ [])
+    ∷ []
+
+-- by way of another estate: 'also when another estate detaches'
+abbrev pub between-cases : List Case
+between-cases =
+    try (by-way-of-1 ++ an-hour) (record-of 21 0 (1 ∷ 0 ∷ 4 ∷ [])) (accepts 1) (attached 0 3 0 2 ∷ active 0 4 3 2 ∷ [])
+    -- a second way keeps it
+    ∷ still-active (by-way-of-1 ++ (record-of 15 0 (3 ∷ 0 ∷ 2 ∷ []) ∷ record-of 16 1 (6 ∷ 0 ∷ 2 ∷ []) ∷ [])) (attached 1 6 0 2 ∷ [])
+    ∷ try (by-way-of-1 ++ (an-hour ++ (record-of 16 1 (6 ∷ 0 ∷ 2 ∷ []) ∷ []))) (record-of 21 0 (1 ∷ 0 ∷ 4 ∷ [])) (accepts 0) (active 0 4 3 3 ∷ attached 1 6 0 2 ∷ [])
     ∷ []
 
 abbrev pub NoneStand : State → List Fact → Type 0

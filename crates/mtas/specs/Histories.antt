@@ -6,6 +6,8 @@ use mathlib.Core.Bool.{Bool, true, false}
 use Prim.Native.Nat.{ℕ, _<_}
 use lib.ListN.{getD}
 use Rattle.bits.specs.Bit.{bit}
+use Rattle.mtas.specs.Hierarchy.{Role, _#_, Reaches}
+use Rattle.mtas.specs.Law.{attachments}
 use Rattle.mtas.specs.Call.{AssignTrust}
 use Rattle.mtas.specs.Answer.{Answer}
 use Rattle.mtas.specs.Decision.{MayUsePermission}
@@ -61,3 +63,10 @@ Noninterference =
     (member : ℕ → Bool) (h₁ h₂ : History) → purge member h₁ ≡ purge member h₂
     → NoTrustIn member initial-words h₁ → NoTrustIn member initial-words h₂
     → SameForMembers member h₁ h₂
+
+-- 'under its premises only members' roles reach a member's' (document 02, Card 2): in a history where no outsider is accepted in giving trust to a member
+abbrev pub OnlyMembersReach : Type 0
+OnlyMembersReach =
+    (member : ℕ → Bool) (h : History) → NoTrustIn member initial-words h
+    → (a : Role) (j r : ℕ) → j < 16 → member j ≡ true → Reaches (attachments (view (final initial-words h))) a (j # r)
+    → (a .issuer < 16) × (member (a .issuer) ≡ true)

@@ -12,6 +12,7 @@ use Rattle.mtas.specs.Needs.{needs}
 use Rattle.mtas.specs.State.{State}
 use Rattle.mtas.specs.Hierarchy.{Graph, nth-role, reaches}
 use Rattle.mtas.specs.Law.{Lawful, attachments}
+use Rattle.mtas.specs.Settle.{settle}
 use Rattle.mtas.specs.Layout.{session-user, Cell, sixteen, its-user, in-session, cell, state-length, word-at, read, view}
 
 -- what the number x of a word may be: a session's user is below 16, or 65535, and then no role is active there
@@ -51,6 +52,10 @@ all-of t (f ∷ l) = elim (t f) [ true ↦ all-of t l | false ↦ false ]
 unfoldable pub has-needs : State → Fact → Bool
 has-needs st f = elim (st .stands f) [ true ↦ all-of (λ g. st .stands g) (needs f) | false ↦ true ]
 
+-- f stays where the state is settled, if it stands: an active role is reached by a held one
+unfoldable pub stays : State → Fact → Bool
+stays st f = elim (st .stands f) [ true ↦ (settle st) .stands f | false ↦ true ]
+
 -- no link of the 256 roles is part of a circle
 unfoldable pub no-circle : Graph → Bool
 no-circle below = all-below 256 (λ a. all-below 256 (λ b. not (below (nth-role a) (nth-role b) && reaches below (nth-role b) (nth-role a))))
@@ -61,4 +66,5 @@ lawful-words ws =
     && (every-word ws (λ k x. ltb x 65536)
     && (every-word ws (λ k x. fits ws (cell (word-at k)) x)
     && (every-word ws (λ k x. all-below 16 (λ n. has-needs (view ws) (said ws (cell (word-at k)) n)))
-    && no-circle (attachments (view ws)))))
+    && (every-word ws (λ k x. all-below 16 (λ n. stays (view ws) (said ws (cell (word-at k)) n)))
+    && no-circle (attachments (view ws))))))

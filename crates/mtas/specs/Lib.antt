@@ -3,10 +3,12 @@ pub mod Needs
 pub mod State
 pub mod Hierarchy
 pub mod Law
+pub mod Settle
 pub mod Call
 pub mod Rule
 pub mod Answer
 pub mod Cascades
+pub mod Settling
 pub mod Layout
 pub mod Places
 pub mod LawTest
@@ -17,6 +19,7 @@ pub mod Decision
 pub mod Access
 pub mod Disclosure
 pub mod PublicRoles
+pub mod Activation
 pub mod Histories
 pub mod Remaining
 pub mod Journal

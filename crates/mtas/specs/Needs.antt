@@ -1,4 +1,4 @@
--- What a fact cannot stand without, listed to the last: the clauses of 'Lawful means' in document 01, and of document 02's Card 1.
+-- What a fact cannot stand without, listed to the last: the clauses of 'Lawful means' in document 01, and of document 02's Card 1. (What an active role is reached by is no list: it is in Law.)
 use mathlib.Core.List.{List, [], _∷_}
 use mathlib.Core.Bool.{true, false}
 use Prim.Native.Nat.{ℕ}
@@ -28,6 +28,6 @@ needs (holds i u r) = user i u ∷ role i r ∷ enrolment i
 -- 'grants and attachments only between present ends, with the role's (or senior's) owner trusting the other owner', and 'links across estates only on public ones'
 needs (granted j p i r) = permission j p ∷ role i r ∷ exposed j i r ∷ trusts i j ∷ enrolled i ∷ trusts i i ∷ enrolment j
 needs (attached j q i r) = role j q ∷ role i r ∷ exposed j i r ∷ trusts i j ∷ enrolled i ∷ trusts i i ∷ enrolment j
--- 'a closed session has no active role, an open one a present user and active roles that this user holds'
+-- 'a closed session has no active role, an open one a present user and active roles'; that the user is authorized for them is in Law
 needs (opened i s u) = user i u ∷ enrolment i
-needs (active i s u r) = opened i s u ∷ holds i u r ∷ user i u ∷ role i r ∷ enrolment i
+needs (active i s u r) = opened i s u ∷ user i u ∷ role i r ∷ enrolment i

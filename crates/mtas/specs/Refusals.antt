@@ -1,14 +1,18 @@
--- 'When a call is turned down' as document 01 and Card 1 have it: by refusal, with the kinds that each concerns. Proved to be what the rows of Rule try.
+-- 'When a call is turned down' as document 01 and Cards 1 and 2 have it: by refusal, with the kinds that each concerns. Proved to be what the rows of Rule try.
+use mathlib.Core.Path.{_≡_}
+use mathlib.Core.Logic.{_↔_}
 use mathlib.Core.List.{List, [], _∷_}
 use mathlib.Core.Bool.{true, false, not}
 use Prim.Native.Nat.{ℕ, zero, suc, _-_}
 use lib.Dec.{eqb, ltb}
 use Rattle.mtas.specs.Fact.{enrolled, trusts, user, role, permission, public, holds, granted, attached, opened, active, above-15}
 use Rattle.mtas.specs.Needs.{exposed}
-use Rattle.mtas.specs.Hierarchy.{_#_}
+use Rattle.mtas.specs.State.{State}
+use Rattle.mtas.specs.Hierarchy.{_#_, Reaches}
+use Rattle.mtas.specs.Law.{attachments, Authorized, Lawful}
 use Rattle.mtas.specs.Call.{Call, arguments}
 use Rattle.mtas.specs.Record.{kind}
-use Rattle.mtas.specs.Rule.{Guard, absent, present, wrong, reached, among-numbers}
+use Rattle.mtas.specs.Rule.{Guard, absent, present, wrong, reached, unauthorized, applies, among-numbers}
 
 -- the letters of 'The call record': what an argument names
 pub data Letter : Type 0 where
@@ -86,7 +90,7 @@ table u-of c k =
     ∷ of (8 ∷ 11 ∷ 12 ∷ 19 ∷ 20 ∷ 22 ∷ 23 ∷ []) (absent 10 (role c r))
     ∷ of (18 ∷ 19 ∷ 20 ∷ []) (absent 10 (opened c s (u-of s)))
     ∷ of (run 13 4) (absent 14 (exposed c i r))
-    ∷ of (19 ∷ []) (absent 11 (holds c (u-of s) r))
+    ∷ of (19 ∷ []) (unauthorized 11 c (u-of s) r)
     ∷ of (3 ∷ []) (present 12 (trusts c i)) ∷ of (4 ∷ []) (absent 12 (trusts c i))
     ∷ of (5 ∷ []) (present 12 (user c u))
     ∷ of (7 ∷ []) (present 12 (role c r))
@@ -104,3 +108,15 @@ table u-of c k =
 abbrev pub concerning : ℕ → List Cause → List Guard
 concerning n [] = []
 concerning n (x ∷ l) = elim (among-numbers n (x .kinds)) [ true ↦ x .tries ∷ concerning n l | false ↦ concerning n l ]
+
+-- what a cause of refusal says, without a test
+abbrev pub Applies : State → Guard → Type 0
+Applies st (absent n f) = st .stands f ≡ false
+Applies st (present n f) = st .stands f ≡ true
+Applies st (wrong n b) = b ≡ true
+Applies st (reached n a b) = Reaches (attachments st) a b
+Applies st (unauthorized n i u r) = Authorized st (attachments st) i u r → ⊥
+
+-- on lawful states the tests say so: a refusal is given where its cause applies, 'and never otherwise'
+abbrev pub AsCaused : Type 0
+AsCaused = (st : State) → Lawful st → (g : Guard) → (applies st g ≡ true) ↔ Applies st g

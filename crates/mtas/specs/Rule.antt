@@ -1,4 +1,4 @@
--- The table of the calls: whose each is, its causes of refusal in order, and its effect (document 01, 'The call record', 'When a call is turned down'; Card 1).
+-- The table of the calls: whose each is, its causes of refusal in order, and its effect (document 01, 'The call record', 'When a call is turned down'; Cards 1 and 2).
 use mathlib.Core.List.{List, [], _∷_, _++_}
 use mathlib.Core.Bool.{Bool, true, false, not, _&&_}
 use Prim.Native.Nat.{ℕ}
@@ -8,6 +8,7 @@ use Rattle.mtas.specs.Needs.{enrolment, exposed}
 use Rattle.mtas.specs.State.{State}
 use Rattle.mtas.specs.Hierarchy.{Role, _#_, reaches}
 use Rattle.mtas.specs.Law.{attachments}
+use Rattle.mtas.specs.Settle.{authorized}
 use Rattle.mtas.specs.Call.{Call, AddIssuer, RemoveIssuer, AssignTrust, RevokeTrust, AddUser, RemoveUser, AddRole, RemoveRole, AddPerm, RemovePerm, AssignUser, RevokeUser, AssignPerm, RevokePerm, AssignRH, RevokeRH, CreateSession, DeleteSession, AddActiveRole, DropActiveRole, CheckAccess, PublishRole, UnpublishRole, arguments}
 
 -- a cause of refusal, with its number
@@ -15,11 +16,12 @@ pub data Guard : Type 0 where
   absent present : ℕ → Fact → Guard  -- the fact doesn't stand, stands
   wrong : ℕ → Bool → Guard  -- a test on the call's own numbers
   reached : ℕ → Role → Role → Guard  -- the first role reaches the second
+  unauthorized : ℕ → ℕ → ℕ → ℕ → Guard  -- i u r: no role that i@u holds reaches i#r
 
 -- what an accepted call does
 pub data Effect : Type 0 where
   puts : List Fact → Effect
-  cuts : Fact → Effect  -- with all that needs it
+  cuts : Fact → Effect  -- with all that needs it, and the active roles that no held role reaches any more
   decides : ℕ → ℕ → ℕ → Effect  -- p, i, s: changes nothing, and gives the verdict
 
 -- whose call it is
@@ -58,7 +60,7 @@ rule u-of c (AssignRH q i r) = row issuer's (link-causes c i r (role c q) (prese
 rule u-of c (RevokeRH q i r) = row issuer's (link-causes c i r (role c q) (absent 12 (attached c q i r) ∷ [])) (cuts (attached c q i r))
 rule u-of c (CreateSession s u) = row issuer's (absent 10 (user c u) ∷ present 12 (opened c s (u-of s)) ∷ []) (puts (opened c s u ∷ []))
 rule u-of c (DeleteSession s) = row issuer's (absent 10 (opened c s (u-of s)) ∷ []) (cuts (opened c s (u-of s)))
-rule u-of c (AddActiveRole s r) = row issuer's (absent 10 (role c r) ∷ absent 10 (opened c s (u-of s)) ∷ absent 11 (holds c (u-of s) r) ∷ present 12 (active c s (u-of s) r) ∷ []) (puts (active c s (u-of s) r ∷ []))
+rule u-of c (AddActiveRole s r) = row issuer's (absent 10 (role c r) ∷ absent 10 (opened c s (u-of s)) ∷ unauthorized 11 c (u-of s) r ∷ present 12 (active c s (u-of s) r) ∷ []) (puts (active c s (u-of s) r ∷ []))
 rule u-of c (DropActiveRole s r) = row issuer's (absent 10 (role c r) ∷ absent 10 (opened c s (u-of s)) ∷ absent 12 (active c s (u-of s) r) ∷ []) (cuts (active c s (u-of s) r))
 rule u-of c (CheckAccess p i s) = row issuer's (absent 10 (permission c p) ∷ []) (decides p i s)
 rule u-of c (PublishRole r) = row issuer's (absent 10 (role c r) ∷ present 12 (public c r) ∷ []) (puts (public c r ∷ []))
@@ -87,12 +89,14 @@ cause (absent n f) = n
 cause (present n f) = n
 cause (wrong n b) = n
 cause (reached n a b) = n
+cause (unauthorized n i u r) = n
 
 abbrev pub applies : State → Guard → Bool
 applies st (absent n f) = not (st .stands f)
 applies st (present n f) = st .stands f
 applies st (wrong n b) = b
 applies st (reached n a b) = reaches (attachments st) a b
+applies st (unauthorized n i u r) = not (authorized st (attachments st) i u r)
 
 -- the refusals, in the order in which they are tried; 14 is tried 'directly after 10'
 abbrev pub refusals : List ℕ

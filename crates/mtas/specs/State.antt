@@ -22,7 +22,7 @@ listed (g ∷ l) f = elim (same f g) [ true ↦ true | false ↦ listed l f ]
 unfoldable pub put : List Fact → State → State
 put l st = record { stands = λ g. elim (listed l g) [ true ↦ true | false ↦ st .stands g ] }
 
--- f goes, with all that needs it: document 01's cascades are this one.
+-- f goes, with all that needs it: document 01's cascades are this one, but for active roles that lose their reach (Settle).
 unfoldable pub cut : Fact → State → State
 cut f st = record { stands = λ g. elim (listed (g ∷ needs g) f) [ true ↦ false | false ↦ st .stands g ] }
 

@@ -13,7 +13,7 @@ use Rattle.mtas.specs.Rule as model
 use Rattle.facts.specs.declared.Fact.{Fact}
 use Rattle.facts.specs.Table.{fact-of}
 use Rattle.rule.specs.declared.Guard.{Guard}
-use Rattle.rule.specs.declared.Guard.the-variants.{Passed, Absent, Present, Wrong, Reached}
+use Rattle.rule.specs.declared.Guard.the-variants.{Passed, Absent, Present, Wrong, Reached, Unauthorized}
 use Rattle.rule.specs.declared.Effect.{Effect}
 use Rattle.rule.specs.declared.Effect.the-variants.{Enrols, Puts, Cuts, Decides}
 use Rattle.rule.specs.declared.Whose.{Whose}
@@ -26,6 +26,7 @@ guard-of (Absent n f) = some (model.absent n (fact-of f))
 guard-of (Present n f) = some (model.present n (fact-of f))
 guard-of (Wrong n b) = some (model.wrong n b)
 guard-of (Reached n c q i r) = some (model.reached n (c # q) (i # r))
+guard-of (Unauthorized n i u r) = some (model.unauthorized n i u r)
 
 abbrev pub then : Option model.Guard → List model.Guard → List model.Guard
 then none l = l

@@ -8,6 +8,7 @@ use Guard::Absent;
 use Guard::Passed;
 use Guard::Present;
 use Guard::Reached;
+use Guard::Unauthorized;
 use Guard::Wrong;
 use facts::Fact;
 use facts::user_of;
@@ -20,6 +21,8 @@ pub enum Guard {
     Present(u16, Fact),
     Wrong(u16, bool),
     Reached(u16, u8, u8, u8, u8),
+    // No role that i@u holds reaches i#r.
+    Unauthorized(u16, u8, u16, u8),
 }
 
 // An effect: an issuer is enrolled, a fact is put or cut with all that needs it, or a question is decided.
@@ -161,7 +164,7 @@ pub fn guards(state: &[u16], c: u8, call: Call) -> [Guard; 7]
             [
                 Absent(10, Fact::Role(c, r)),
                 Absent(10, Fact::Opened(c, s, user)),
-                Absent(11, Fact::Holds(c, user, r)),
+                Unauthorized(11, c, user, r),
                 Present(12, Fact::Active(c, s, user, r)),
                 no,
                 no,

@@ -11,6 +11,7 @@ applies-spec =
     tie.close
     (tie.spec
     (λ c. search needs) (λ c. search needs) (λ c κs. search needs) (λ c. search needs) (λ c κs. search needs) (λ c. search needs) (λ c. search needs)
-    (λ c κs. search needs) (λ c. search needs)
+    (λ c κs. search needs) (λ c. search needs) (λ c κs. search needs) (λ c. search needs)
     (λ c. applied (c .before .before .guard .given .1) (record { is = ap not (c .stands .ensures) }))
-    (λ c. search (needs, applied)) (λ c. search needs) (λ c. search (needs, applied)))
+    (λ c. search (needs, applied)) (λ c. search needs) (λ c. search (needs, applied))
+    (λ c. applied (c .before .before .guard5 .given .1) (record { is = ap not (c .is-authorized .ensures) })))

@@ -9,4 +9,4 @@ cause-spec =
     tie.close
     (tie.spec
     (λ c. search needs) (λ c. search needs) (λ c. search needs) (λ c. search needs) (λ c. search needs) (λ c. search needs) (λ c. search needs)
-    (λ c. search needs) (λ c. search needs) (λ c. search (needs, caused)))
+    (λ c. search needs) (λ c. search needs) (λ c. search needs) (λ c. search (needs, caused)) (λ c. search (needs, caused)))
