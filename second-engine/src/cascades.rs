@@ -6,6 +6,11 @@ use std::collections::BTreeSet;
 
 /// "Nothing else changes."
 pub fn carry_out(sets: &mut Sets, decoded: &Decoded) {
+    change(sets, decoded);
+    drop_beyond_reach(sets);
+}
+
+fn change(sets: &mut Sets, decoded: &Decoded) {
     let caller = decoded.caller;
     match decoded.call {
         Call::Enrol { issuer } => enrol(sets, issuer),
@@ -31,7 +36,10 @@ pub fn carry_out(sets: &mut Sets, decoded: &Decoded) {
             let user = own(caller, user);
             sets.held.insert(Held { user, role });
         }
-        Call::TakeRole { user, role } => take_role(sets, own(caller, user), role),
+        Call::TakeRole { user, role } => {
+            let user = own(caller, user);
+            sets.held.remove(&Held { user, role });
+        }
         Call::Grant {
             permission,
             issuer,
@@ -166,16 +174,6 @@ fn remove_permission(sets: &mut Sets, permission: Permission) {
     sets.grants.retain(|grant| grant.permission != permission);
 }
 
-/// "Taking a role drops it from that user's sessions."
-fn take_role(sets: &mut Sets, user: User, role: usize) {
-    sets.held.remove(&Held { user, role });
-    for (name, session) in &mut sets.sessions {
-        if own(name.issuer, session.user) == user {
-            session.active.remove(&role);
-        }
-    }
-}
-
 /// "Unpublishing clears those that used it": the grants and attachments of other estates.
 fn unpublish(sets: &mut Sets, role: Role) {
     sets.public.remove(&role);
@@ -183,4 +181,16 @@ fn unpublish(sets: &mut Sets, role: Role) {
         .retain(|grant| grant.role != role || grant.permission.issuer == role.issuer);
     sets.attachments
         .retain(|attachment| attachment.senior != role || attachment.junior.issuer == role.issuer);
+}
+
+/// "An active role is dropped in the call that breaks its reach, also when another estate
+/// detaches; taking a role drops nothing still reached." So every session is looked at, and a
+/// call that breaks no reach drops nothing.
+fn drop_beyond_reach(sets: &mut Sets) {
+    let mut sessions = sets.sessions.clone();
+    for (name, session) in &mut sessions {
+        let reach = sets.within_reach(own(name.issuer, session.user));
+        session.active.retain(|role| reach.contains(role));
+    }
+    sets.sessions = sessions;
 }

@@ -1,4 +1,5 @@
-//! "Twelve press-house cases" and cases of public roles, as records with the paper's answers.
+//! "Twelve press-house cases", cases of public roles and of lesser ones, as records with the
+//! paper's answers.
 
 use crate::record::{encode, OPERATOR};
 
@@ -7,6 +8,9 @@ type Row = (usize, usize, &'static [usize]);
 
 /// The refusal and the verdict.
 pub type Expected = (u16, u16);
+
+/// A case's name, its records and the answer to the last of them.
+type Rows = (&'static str, &'static [Row], Expected);
 
 pub struct Case {
     pub name: &'static str,
@@ -34,7 +38,7 @@ const S: [Row; 12] = [
 ];
 
 #[rustfmt::skip]
-const A_TO_L: [(&str, &[Row], Expected); 12] = [
+const A_TO_L: [Rows; 12] = [
     ("A", &[(21, 1, &[5, 0, 4])], (0, 1)),
     ("B", &[(4, 0, &[1]), (21, 1, &[5, 0, 4])], (0, 0)),
     ("C", &[(20, 0, &[4, 2]), (21, 1, &[5, 0, 4])], (0, 0)),
@@ -52,7 +56,7 @@ const A_TO_L: [(&str, &[Row], Expected); 12] = [
 /// "Some roles stay indoors": 0#2 is public in S and 0#3 is not. Where 1#1 is attached below 0#2,
 /// it holds 1%6.
 #[rustfmt::skip]
-const PUBLIC_ROLES: [(&str, &[Row], Expected); 33] = [
+const PUBLIC_ROLES: [Rows; 33] = [
     ("grant to a private role", &[(13, 1, &[5, 0, 3])], (14, 0)),
     ("ungrant from a private role", &[(14, 1, &[5, 0, 3])], (14, 0)),
     ("attach below a private senior", &[(7, 1, &[1]), (15, 1, &[1, 0, 3])], (14, 0)),
@@ -124,6 +128,86 @@ const PUBLIC_ROLES: [(&str, &[Row], Expected); 33] = [
     ], (0, 1)),
 ];
 
+/// "A cellar master works as a press hand": from S, where 0@3 holds 0#2 and not 0#3.
+#[rustfmt::skip]
+const LESSER_ROLES: [Rows; 7] = [
+    ("a junior", &[(15, 0, &[3, 0, 2]), (19, 0, &[4, 3]), (19, 0, &[4, 3])], (12, 0)),
+    ("a junior's junior", &[
+        (7, 0, &[7]), (15, 0, &[7, 0, 2]), (15, 0, &[3, 0, 7]), (19, 0, &[4, 3]), (19, 0, &[4, 3]),
+    ], (12, 0)),
+    ("a senior", &[(15, 0, &[2, 0, 3]), (19, 0, &[4, 3])], (11, 0)),
+    ("another user's role", &[(5, 0, &[5]), (11, 0, &[5, 3]), (19, 0, &[4, 3])], (11, 0)),
+    ("a junior detached before", &[
+        (15, 0, &[3, 0, 2]), (16, 0, &[3, 0, 2]), (19, 0, &[4, 3]),
+    ], (11, 0)),
+    ("a junior removed", &[(15, 0, &[3, 0, 2]), (8, 0, &[3]), (19, 0, &[4, 3])], (10, 0)),
+    ("a junior, session closed", &[(15, 0, &[3, 0, 2]), (19, 0, &[5, 3])], (10, 0)),
+];
+
+/// From S: 0#3 is active in 0/4; it is below 1#1, which is below 0#2.
+const WAY: [Row; 6] = [
+    (7, 1, &[1]),
+    (22, 1, &[1]),
+    (3, 1, &[0]),
+    (15, 1, &[1, 0, 2]),
+    (15, 0, &[3, 1, 1]),
+    (19, 0, &[4, 3]),
+];
+
+/// After `WAY`: deactivating 0#3 gives 12 where it was dropped, activating it where it was not.
+#[rustfmt::skip]
+const ON_THE_WAY: [Rows; 27] = [
+    ("a way through another estate", &[(19, 0, &[4, 3])], (12, 0)),
+    ("another estate detaches", &[(16, 1, &[1, 0, 2]), (20, 0, &[4, 3])], (12, 0)),
+    ("the issuer detaches", &[(16, 0, &[3, 1, 1]), (20, 0, &[4, 3])], (12, 0)),
+    ("trust withdrawn by the issuer", &[(4, 0, &[1]), (20, 0, &[4, 3])], (12, 0)),
+    ("trust withdrawn by the other", &[(4, 1, &[0]), (20, 0, &[4, 3])], (12, 0)),
+    ("senior unpublished", &[(23, 0, &[2]), (20, 0, &[4, 3])], (12, 0)),
+    ("role between unpublished", &[(23, 1, &[1]), (20, 0, &[4, 3])], (12, 0)),
+    ("role between removed", &[(8, 1, &[1]), (20, 0, &[4, 3])], (12, 0)),
+    ("estate between struck", &[(2, OPERATOR, &[1]), (20, 0, &[4, 3])], (12, 0)),
+    ("held role removed", &[(8, 0, &[2]), (20, 0, &[4, 3])], (12, 0)),
+    ("held role taken", &[(12, 0, &[3, 2]), (20, 0, &[4, 3])], (12, 0)),
+    ("held role taken, itself", &[(12, 0, &[3, 2]), (20, 0, &[4, 2])], (12, 0)),
+    ("user removed", &[(6, 0, &[3]), (20, 0, &[4, 3])], (10, 0)),
+
+    ("beyond reach", &[(16, 1, &[1, 0, 2]), (19, 0, &[4, 3])], (11, 0)),
+    ("attaching again brings nothing back", &[
+        (16, 1, &[1, 0, 2]), (15, 1, &[1, 0, 2]), (20, 0, &[4, 3]),
+    ], (12, 0)),
+    ("attached and activated again", &[
+        (16, 1, &[1, 0, 2]), (15, 1, &[1, 0, 2]), (19, 0, &[4, 3]), (19, 0, &[4, 3]),
+    ], (12, 0)),
+
+    ("the held role stays", &[(16, 1, &[1, 0, 2]), (19, 0, &[4, 2])], (12, 0)),
+    ("the held role deactivated", &[(20, 0, &[4, 2]), (19, 0, &[4, 3])], (12, 0)),
+    ("another way left", &[
+        (15, 0, &[3, 0, 2]), (16, 1, &[1, 0, 2]), (19, 0, &[4, 3]),
+    ], (12, 0)),
+    ("held by now", &[(11, 0, &[3, 3]), (16, 1, &[1, 0, 2]), (19, 0, &[4, 3])], (12, 0)),
+    ("held and taken, still reached", &[
+        (11, 0, &[3, 3]), (12, 0, &[3, 3]), (19, 0, &[4, 3]),
+    ], (12, 0)),
+    ("one of two held roles taken", &[
+        (7, 0, &[7]), (11, 0, &[3, 7]), (15, 0, &[3, 0, 7]), (12, 0, &[3, 2]), (19, 0, &[4, 3]),
+    ], (12, 0)),
+    ("both held roles taken", &[
+        (7, 0, &[7]), (11, 0, &[3, 7]), (15, 0, &[3, 0, 7]), (12, 0, &[3, 2]), (12, 0, &[3, 7]),
+        (20, 0, &[4, 3]),
+    ], (12, 0)),
+    ("taken below another held role", &[
+        (7, 0, &[7]), (11, 0, &[3, 7]), (15, 0, &[2, 0, 7]), (12, 0, &[3, 2]), (19, 0, &[4, 2]),
+    ], (12, 0)),
+
+    ("the lesser role alone", &[(20, 0, &[4, 2]), (21, 1, &[5, 0, 4])], (0, 0)),
+    ("what the lesser role holds", &[
+        (9, 0, &[1]), (13, 0, &[1, 0, 3]), (20, 0, &[4, 2]), (21, 0, &[1, 0, 4]),
+    ], (0, 1)),
+    ("what the dropped role held", &[
+        (9, 0, &[1]), (13, 0, &[1, 0, 3]), (16, 1, &[1, 0, 2]), (21, 0, &[1, 0, 4]),
+    ], (0, 0)),
+];
+
 fn records(rows: &[Row]) -> Vec<Vec<u8>> {
     let row = |&(kind, caller, arguments): &Row| encode(kind, caller, arguments);
     rows.iter().map(row).collect()
@@ -135,11 +219,16 @@ pub fn state_s() -> Vec<Vec<u8>> {
 
 /// All cases, each from S.
 pub fn cases() -> Vec<Case> {
-    let cases = A_TO_L.into_iter().chain(PUBLIC_ROLES);
-    let case = |(name, rows, expected)| Case {
+    let from_s = A_TO_L.into_iter().chain(PUBLIC_ROLES).chain(LESSER_ROLES);
+    let from_s = from_s.map(|rows| case(&[], rows));
+    let on_the_way = ON_THE_WAY.into_iter().map(|rows| case(&WAY, rows));
+    from_s.chain(on_the_way).collect()
+}
+
+fn case(before: &[Row], (name, rows, expected): Rows) -> Case {
+    Case {
         name,
-        records: records(rows),
+        records: records(&[before, rows].concat()),
         expected,
-    };
-    cases.map(case).collect()
+    }
 }

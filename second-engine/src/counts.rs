@@ -2,6 +2,7 @@
 
 use crate::engine::Answer;
 use crate::lawful::{Law, LAWS};
+use crate::reach_counts::ReachCounts;
 use crate::record::{decode, Call, KINDS};
 use crate::refusals::{linked_role, REFUSALS};
 use crate::sets::{own, Grant, Permission, SessionName, Sets};
@@ -26,16 +27,16 @@ const CLEARED: [&str; 10] = [
 #[rustfmt::skip]
 const MUST_CLEAR: [(usize, &[&str]); 11] = [
     (2, &CLEARED),
-    (4, &["trust", "grants", "attachments"]),
+    (4, &["trust", "grants", "attachments", "active"]),
     (6, &["users", "held", "sessions", "active"]),
     (8, &["roles", "public", "held", "grants", "attachments", "active"]),
     (10, &["permissions", "grants"]),
     (12, &["held", "active"]),
     (14, &["grants"]),
-    (16, &["attachments"]),
+    (16, &["attachments", "active"]),
     (18, &["sessions", "active"]),
     (20, &["active"]),
-    (23, &["public", "grants", "attachments"]),
+    (23, &["public", "grants", "attachments", "active"]),
 ];
 
 /// How many there are of each of `CLEARED`.
@@ -77,6 +78,7 @@ pub struct Counts {
     cleared: [[u64; CLEARED.len()]; KINDS + 1],
     /// States that broke one clause of "Lawful means" and no other.
     broken_alone: BTreeMap<Law, u64>,
+    pub reach: ReachCounts,
 }
 
 impl Counts {
@@ -167,6 +169,7 @@ impl Counts {
         if self.starts == 0 {
             missing.push("starting a used state".to_string());
         }
+        missing.extend(self.reach.missing());
         missing
     }
 
@@ -195,6 +198,7 @@ impl Counts {
             self.verdicts[3],
             self.verdicts[4]
         );
+        self.reach.print();
         println!("kind: accepted across estates, refused with 14");
         for kind in 13..=16 {
             let (accepted, refused) = (self.accepted_across[kind], self.not_public[kind]);

@@ -4,6 +4,7 @@ use crate::lawful_states::lawful_sets;
 use crate::places::{session_word, CLOSED, WORDS};
 use crate::random::Random;
 use crate::sets::{own, write_started, Attachment, Grant, Held, Role, Sets, Trust};
+use crate::ways::{any_way, Way};
 use crate::worlds::{Thing, World};
 use std::collections::BTreeSet;
 use std::fmt;
@@ -93,7 +94,7 @@ pub fn any_damage(random: &mut Random, world: &World, present: &[u16]) -> Damage
 
 /// Changes something in the words, or gives another length for them.
 fn change(random: &mut Random, world: &World, words: &mut [u16]) -> usize {
-    match random.below(20) {
+    match random.below(22) {
         // a wrong length, also one that is right modulo 65536
         0 => return random.pick(&[0, 1, 9025, 9040, 9042, 9043, 18082, 65536 + WORDS]),
         // nothing
@@ -121,6 +122,16 @@ fn change(random: &mut Random, world: &World, words: &mut [u16]) -> usize {
         9 | 10 => {
             let mut sets = Sets::read(words);
             put_circle_in(random, &mut sets);
+            sets.write(words);
+        }
+        // an active role that isn't held, within reach or beyond it
+        11 | 12 => {
+            let mut sets = Sets::read(words);
+            if random.percent(50) {
+                put_active_in(random, &mut sets);
+            } else {
+                cut_way(random, &mut sets);
+            }
             sets.write(words);
         }
         // something put in or taken out without its cascade
@@ -152,13 +163,45 @@ fn put_circle_in(random: &mut Random, sets: &mut Sets) {
         let Some(junior) = random.member(&sets.roles) else {
             return;
         };
-        let below = sets.reached(junior);
+        let below = sets.reached([junior]);
         let fits = |low: &Role| *low != junior && sets.may_link(*low, junior.issuer);
         if let Some(senior) = random.member_where(&below, fits) {
             circle = Attachment { senior, junior };
         }
     }
     sets.attachments.insert(circle);
+}
+
+/// Makes a role active that the session's user doesn't hold, within the user's reach or beyond.
+fn put_active_in(random: &mut Random, sets: &mut Sets) {
+    let open = sets.sessions.keys().copied().collect();
+    let Some(name) = random.member(&open) else {
+        return;
+    };
+    let user = own(name.issuer, sets.sessions[&name].user);
+    let reach = sets.within_reach(user);
+    let within = random.percent(50);
+    let not_held = |role: usize| !sets.held.contains(&Held { user, role });
+    let fits = |role: &Role| {
+        let ours = role.issuer == name.issuer && not_held(role.number);
+        ours && reach.contains(&role.number) == within
+    };
+    let role = random.member_where(&sets.roles, fits);
+    let session = sets.sessions.get_mut(&name).expect("it is open");
+    session.active.extend(role.map(|role| role.number));
+}
+
+/// Cuts a way down to an active role that the user doesn't hold; another may be left.
+fn cut_way(random: &mut Random, sets: &mut Sets) {
+    let Some(Way { user, held, links }) = any_way(random, sets) else {
+        return;
+    };
+    if random.percent(30) {
+        let role = held.number;
+        sets.held.remove(&Held { user, role });
+    } else {
+        sets.attachments.remove(&random.pick(&links));
+    }
 }
 
 /// Takes away what a link between two estates needs: the trust, or that the role is public.

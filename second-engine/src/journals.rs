@@ -144,22 +144,26 @@ fn aim(damage: &Damage, desk: &Desk) -> Sets {
 /// Plays a step on both and counts it; `None` where they disagree.
 fn play(both: &mut SideBySide, step: &Step, counts: &mut Counts) -> Option<Answer> {
     let before = sizes(both.desk().sets());
+    let sessions = both.desk().sets().sessions.clone();
     let answer = both.play(step).ok()?;
     match step {
         Step::Call(record) => {
             counts.answered(record, answer);
             if answer.refusal == 0 {
-                counts.changed(record, answer, before, both.desk().sets());
+                let after = both.desk().sets();
+                counts.changed(record, answer, before, after);
+                counts.reach.changed(record, &sessions, after);
             }
         }
         Step::CallOn(damage, record) => {
             counts.answered(record, answer);
             let words = damage.apply(both.desk().words());
-            let broken = if answer.refusal == 2 {
-                broken_laws(&Sets::read(&words))
-            } else {
-                Vec::new()
-            };
+            let mut broken = Vec::new();
+            if answer.refusal == 2 {
+                broken = broken_laws(&Sets::read(&words));
+            } else if answer.refusal != 1 {
+                counts.reach.on_lawful_state(&Sets::read(&words));
+            }
             counts.on_other_state(answer, &broken);
         }
         Step::StartOn(_) => counts.starts += 1,

@@ -1,6 +1,6 @@
 //! "Lawful means": each clause is looked for in the sets by itself.
 
-use crate::sets::{own, Attachment, Held, Role, Sets};
+use crate::sets::{own, Attachment, Role, Sets};
 use std::collections::BTreeSet;
 
 /// The clauses of "Lawful means", in the order of the sentence, then those of the public roles.
@@ -17,7 +17,7 @@ pub enum Law {
     AttachmentTrusted,
     ClosedHasNoActive,
     OpenHasUser,
-    ActiveIsHeld,
+    ActiveIsReached,
     NoCircle,
     PublicIsPresent,
     GrantPublic,
@@ -36,7 +36,7 @@ pub const LAWS: [Law; 16] = [
     Law::AttachmentTrusted,
     Law::ClosedHasNoActive,
     Law::OpenHasUser,
-    Law::ActiveIsHeld,
+    Law::ActiveIsReached,
     Law::NoCircle,
     Law::PublicIsPresent,
     Law::GrantPublic,
@@ -98,13 +98,10 @@ fn kept(sets: &Sets, law: Law) -> bool {
             .sessions
             .iter()
             .all(|(name, session)| sets.users.contains(&own(name.issuer, session.user))),
-        // "and active roles that this user holds"
-        Law::ActiveIsHeld => sets.sessions.iter().all(|(name, session)| {
+        // "and active roles that this user holds", now each one "that a held role reaches"
+        Law::ActiveIsReached => sets.sessions.iter().all(|(name, session)| {
             let user = own(name.issuer, session.user);
-            session
-                .active
-                .iter()
-                .all(|&role| sets.held.contains(&Held { user, role }))
+            session.active.is_subset(&sets.within_reach(user))
         }),
         // "no role reaches itself by one or more attachments"
         Law::NoCircle => !has_circle(sets),

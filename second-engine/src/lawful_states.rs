@@ -37,24 +37,14 @@ pub fn lawful_sets(random: &mut Random) -> Sets {
             sets.public.insert(role);
         }
     }
+    // Users that hold little reach more than they hold.
+    let holding = random.pick(&[thick, 10]);
     for &user in &sets.users {
         for role in sets.roles.iter().filter(|role| role.issuer == user.issuer) {
-            if random.percent(thick) {
+            if random.percent(holding) {
                 let role = role.number;
                 sets.held.insert(Held { user, role });
             }
-        }
-    }
-    for &user in &sets.users {
-        if random.percent(thick) {
-            let held = sets.held.iter().filter(|held| held.user == user);
-            let active = held.map(|held| held.role).filter(|role| role % 3 != 1);
-            let session = Session {
-                user: user.number,
-                active: active.collect(),
-            };
-            sets.sessions
-                .insert(own(user.issuer, random.below(16)), session);
         }
     }
     // Juniors come after their seniors in a random order, so there is no circle.
@@ -72,6 +62,17 @@ pub fn lawful_sets(random: &mut Random) -> Sets {
             if sets.may_link(role, permission.issuer) && random.percent(thin) {
                 sets.grants.insert(Grant { role, permission });
             }
+        }
+    }
+    for &user in &sets.users {
+        if random.percent(thick) {
+            let reach = sets.within_reach(user).into_iter();
+            let session = Session {
+                user: user.number,
+                active: reach.filter(|role| role % 3 != 1).collect(),
+            };
+            sets.sessions
+                .insert(own(user.issuer, random.below(16)), session);
         }
     }
     sets

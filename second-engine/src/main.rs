@@ -5,9 +5,10 @@
 //! engine itself on the paper's cases. `build.rs` says where the library is looked for.
 //!
 //! The engine: `places`, `sets`, `lawful`, `record`, `refusals`, `cascades`, `engine`. The
-//! journals: `worlds`, `records`, `lawful_states`, `damage`, `journals`. Demand 3: `histories`,
-//! `pairs`.
+//! journals: `worlds`, `ways`, `records`, `aims`, `lawful_states`, `damage`, `journals`. Demand
+//! 3: `histories`, `pairs`.
 
+mod aims;
 mod cascades;
 mod cases;
 mod counts;
@@ -23,6 +24,9 @@ mod pairs;
 mod patience;
 mod places;
 mod random;
+mod reach_counts;
+#[cfg(test)]
+mod reach_tests;
 mod record;
 mod records;
 mod refusals;
@@ -32,6 +36,7 @@ mod shrink;
 mod side_by_side;
 #[cfg(test)]
 mod tests;
+mod ways;
 mod worlds;
 
 use counts::Counts;

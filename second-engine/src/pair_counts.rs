@@ -2,8 +2,10 @@
 
 use crate::histories::{outsiders, trusts_a_member, In, Pair};
 use crate::pairs::Played;
+use crate::reach_counts::{dropped, lesser_activated, Sessions};
 use crate::record::decode;
 use crate::sets::Sets;
+use crate::ways::only_through_others;
 use std::collections::BTreeSet;
 
 /// What came of the records that remain, or of the outsiders'.
@@ -51,6 +53,12 @@ pub struct PairCounts {
     member_links: u64,
     links_to_outsiders: u64,
     outsider_links: u64,
+    /// Lesser roles activated, and active roles dropped as their reach broke.
+    lesser: u64,
+    lesser_through_members: u64,
+    lesser_of_outsiders: u64,
+    dropped: u64,
+    dropped_of_outsiders: u64,
     usable: u64,
     usable_of_outsiders: u64,
     different_ends: u64,
@@ -72,6 +80,31 @@ impl PairCounts {
                 self.refused_trust += u64::from(refused_trust);
             }
             self.count_end(&pair.members, &Sets::read(&played.words));
+        }
+    }
+
+    /// One call of a history, accepted.
+    pub fn count_call(
+        &mut self,
+        members: &BTreeSet<usize>,
+        record: &[u8],
+        before: &Sessions,
+        after: &Sets,
+    ) {
+        if let Some((name, role)) = lesser_activated(record, after) {
+            if members.contains(&name.issuer) {
+                self.lesser += 1;
+                self.lesser_through_members += u64::from(only_through_others(after, name, role));
+            } else {
+                self.lesser_of_outsiders += 1;
+            }
+        }
+        for (name, _) in dropped(before, after) {
+            if members.contains(&name.issuer) {
+                self.dropped += 1;
+            } else {
+                self.dropped_of_outsiders += 1;
+            }
         }
     }
 
@@ -100,7 +133,7 @@ impl PairCounts {
         }
     }
 
-    fn lines(&self) -> [(&'static str, u64); 22] {
+    fn lines(&self) -> [(&'static str, u64); 27] {
         let PairCounts {
             remaining,
             outsiders,
@@ -127,6 +160,11 @@ impl PairCounts {
             ("links among members", self.member_links),
             ("links member-outsider", self.links_to_outsiders),
             ("links among outsiders", self.outsider_links),
+            ("lesser, of members", self.lesser),
+            ("  through other members", self.lesser_through_members),
+            ("lesser, of outsiders", self.lesser_of_outsiders),
+            ("dropped, of members", self.dropped),
+            ("dropped, of outsiders", self.dropped_of_outsiders),
             ("usable, of members", self.usable),
             ("usable, of outsiders", self.usable_of_outsiders),
         ]

@@ -9,7 +9,7 @@ use crate::places::{
 };
 use crate::random::Random;
 use crate::report::{announce, report};
-use crate::sets::{own, Sets};
+use crate::sets::{own, Attachment, Sets};
 use crate::shrink::shrink;
 use crate::side_by_side::{hex, SideBySide, Step};
 
@@ -30,7 +30,7 @@ pub fn play_pairs(seed: u64, pairs: u64, trace: bool, counts: &mut PairCounts) -
         let whence = format!("pair {} of seed {seed}", counts.pairs);
         let mut both = Vec::new();
         for which in [In::First, In::Second] {
-            match play_beside_engine(&pair.history(which), trace) {
+            match play_beside_engine(&pair, which, trace, counts) {
                 Ok(played) => both.push(played),
                 Err(steps) => {
                     announce(&whence);
@@ -48,17 +48,26 @@ pub fn play_pairs(seed: u64, pairs: u64, trace: bool, counts: &mut PairCounts) -
 }
 
 /// Gives the failing steps where the library and the second engine disagree.
-fn play_beside_engine(records: &[&[u8]], trace: bool) -> Result<Played, Vec<Step>> {
+fn play_beside_engine(
+    pair: &Pair,
+    which: In,
+    trace: bool,
+    counts: &mut PairCounts,
+) -> Result<Played, Vec<Step>> {
     let Ok(mut both) = SideBySide::started(trace) else {
         return Err(Vec::new());
     };
     let mut answers = Vec::new();
     let mut steps = Vec::new();
-    for record in records {
+    for record in pair.history(which) {
+        let before = both.desk().sets().sessions.clone();
         steps.push(Step::Call(record.to_vec()));
-        match both.play(&steps[steps.len() - 1]) {
-            Ok(answer) => answers.push(answer.packed()),
-            Err(_) => return Err(steps),
+        let Ok(answer) = both.play(&steps[steps.len() - 1]) else {
+            return Err(steps);
+        };
+        answers.push(answer.packed());
+        if answer.refusal == 0 {
+            counts.count_call(&pair.members, record, &before, both.desk().sets());
         }
     }
     let words = both.library_words().to_vec();
@@ -90,6 +99,15 @@ fn broken_claim(pair: &Pair, first: &Played, second: &Played) -> Option<String> 
     }
     let first_sets = Sets::read(&first.words);
     let second_sets = Sets::read(&second.words);
+    // "under its premises only members' roles reach a member's"
+    let from_outside = |Attachment { senior, junior }: &Attachment| {
+        pair.members.contains(&junior.issuer) && !pair.members.contains(&senior.issuer)
+    };
+    for sets in [&first_sets, &second_sets] {
+        if sets.attachments.iter().any(from_outside) {
+            return Some("an outsider's role above a member's".to_string());
+        }
+    }
     for &j in &pair.members {
         // "all that stands in each member's own name is equal bit for bit"
         if own_name(&first.words, j) != own_name(&second.words, j) {

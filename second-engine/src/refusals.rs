@@ -18,7 +18,7 @@ const ROWS: [(u16, Applies); 11] = [
     (9, caller_not_trusted),
     (10, something_absent),
     (14, not_public),
-    (11, role_not_held),
+    (11, role_beyond_reach),
     (12, nothing_to_change),
     (13, closes_a_circle),
 ];
@@ -141,8 +141,8 @@ fn not_public(sets: &Sets, decoded: &Decoded) -> bool {
     linked_role(decoded).is_some_and(|role| !sets.shown_to(role, decoded.caller))
 }
 
-/// 11: "kind 19: user doesn't hold the role"
-fn role_not_held(sets: &Sets, decoded: &Decoded) -> bool {
+/// 11: "kind 19: user doesn't hold the role", now: no role that the user holds reaches it
+fn role_beyond_reach(sets: &Sets, decoded: &Decoded) -> bool {
     let Call::Activate { session, role } = decoded.call else {
         return false;
     };
@@ -150,7 +150,7 @@ fn role_not_held(sets: &Sets, decoded: &Decoded) -> bool {
         return false;
     };
     let user = own(decoded.caller, open.user);
-    !sets.held.contains(&Held { user, role })
+    !sets.within_reach(user).contains(&role)
 }
 
 /// 12: "nothing to change: already there, open or active (3, 5, 7, 9, 11, 13, 15, 17, 19),
@@ -211,6 +211,6 @@ fn closes_a_circle(sets: &Sets, decoded: &Decoded) -> bool {
         return false;
     };
     // A role reaches itself, so this has the case that q is i#r.
-    let reached = sets.reached(own(decoded.caller, junior));
+    let reached = sets.reached([own(decoded.caller, junior)]);
     reached.contains(&own(issuer, senior))
 }

@@ -234,10 +234,11 @@ impl Sets {
             .map(|attachment| attachment.junior)
     }
 
-    /// "Every role reaches itself and whatever is attached below a role it reaches."
-    pub fn reached(&self, role: Role) -> BTreeSet<Role> {
-        let mut reached = BTreeSet::from([role]);
-        let mut to_visit = vec![role];
+    /// "Every role reaches itself and whatever is attached below a role it reaches": what some
+    /// of these roles reach.
+    pub fn reached(&self, roles: impl IntoIterator<Item = Role>) -> BTreeSet<Role> {
+        let mut reached: BTreeSet<Role> = roles.into_iter().collect();
+        let mut to_visit = Vec::from_iter(reached.clone());
         while let Some(senior) = to_visit.pop() {
             for junior in self.juniors(senior) {
                 if reached.insert(junior) {
@@ -248,16 +249,29 @@ impl Sets {
         reached
     }
 
+    /// The roles that the user holds.
+    pub fn held_by(&self, user: User) -> impl Iterator<Item = Role> + '_ {
+        let held = self.held.iter().filter(move |held| held.user == user);
+        held.map(|held| own(held.user.issuer, held.role))
+    }
+
+    /// "any role of the user's own issuer that a held role reaches"
+    pub fn within_reach(&self, user: User) -> BTreeSet<usize> {
+        let reached = self.reached(self.held_by(user));
+        let of_issuer = reached.iter().filter(|role| role.issuer == user.issuer);
+        of_issuer.map(|role| role.number).collect()
+    }
+
     /// "an active role of an open session reaches a role that holds p"
     pub fn may_use(&self, name: SessionName, permission: Permission) -> bool {
         let Some(session) = self.sessions.get(&name) else {
             return false;
         };
-        session.active.iter().any(|&active| {
-            self.reached(own(name.issuer, active))
-                .into_iter()
-                .any(|role| self.grants.contains(&Grant { role, permission }))
-        })
+        let active = session.active.iter();
+        let mut reached = self
+            .reached(active.map(|&role| own(name.issuer, role)))
+            .into_iter();
+        reached.any(|role| self.grants.contains(&Grant { role, permission }))
     }
 }
 

@@ -23,7 +23,7 @@ fn played(records: &[Vec<u8>]) -> (Vec<u16>, Vec<Answer>) {
     (words, answers)
 }
 
-fn in_s() -> Sets {
+pub fn in_s() -> Sets {
     let trust = |trustor, trustee| Trust { trustor, trustee };
     let session = Session {
         user: 3,

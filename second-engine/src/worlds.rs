@@ -55,6 +55,8 @@ pub struct World {
     weights: &'static [usize; KINDS],
     /// Attachments make long chains, and grants go to their lower ends.
     pub deep: bool,
+    /// Users hold one or two roles, mostly, and so reach more than they hold.
+    pub lean: bool,
 }
 
 impl World {
@@ -75,6 +77,7 @@ impl World {
             sessions: names(1, 3),
             weights: &COMING,
             deep: random.percent(50),
+            lean: random.percent(50),
         }
     }
 
