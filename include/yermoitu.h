@@ -2,7 +2,7 @@
 
    `rt staticlib yermoitu` proves the monitor and writes target/staticlib/libyermoitu.a, for x86-64
    Linux. Link it behind your own files. It has no variables of its own, takes no memory from the
-   heap, needs about 9 KB of stack, and calls nothing but memcpy and memset.
+   heap, needs about 10 KB of stack, and calls nothing but memcpy and memset.
 
    A state is YERMOITU_WORDS unsigned 16-bit words that the caller lends for each call. A call is a
    record of bytes: its length (2 bytes, the low byte first, counting the whole record), its kind (2
@@ -12,6 +12,12 @@
    The refusal is 0 where the call was accepted, else the number of the first cause, 1 to 14; they
    are tried from 1 upwards, but 14 between 10 and 11. The verdict is 1 where kind 21 was accepted
    and the session may use the permission, else 0.
+
+   Kind 19 activates any role of the session's issuer that a role held by its user reaches (itself,
+   or by attachments, through other issuers' roles too), and gives 11 for another. An accepted call
+   that breaks such a reach drops the active role, whoever makes the call: kinds 2, 4, 8, 16 and 23
+   in any issuer's open sessions, 12 in the caller's own; 12 drops nothing that is still reached.
+   Only kind 19 brings a dropped role back.
 
    What the caller owes, since nothing can test it:
    - where `words` is YERMOITU_WORDS, `state` points to so many words, aligned as uint16_t is, each

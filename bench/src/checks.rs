@@ -1,10 +1,13 @@
 //! The library and the plain engine must agree, in answers and in every word.
 
+mod lesser;
+
+use crate::active;
 use crate::library;
 use crate::random::Random;
-use crate::records::{random_journal, random_record, Record};
+use crate::records::{lively_journal, random_journal, random_record, Record, DEACTIVATE};
 use crate::states::Case;
-use crate::words::{self, PUBLIC, WORDS};
+use crate::words::{self, session, ATTACHMENTS, HELD, PUBLIC, SESSIONS, WORDS};
 
 /// What was compared.
 #[derive(Default)]
@@ -12,11 +15,16 @@ pub struct Checked {
     pub calls: usize,
     pub refusals: [usize; 15],
     pub verdicts: usize,
+    /// Roles that were activated and that the session's user didn't hold.
+    pub lesser: usize,
+    /// Active roles that open sessions lost by other calls than deactivation.
+    pub dropped: usize,
 }
 
 impl Checked {
     /// One record on both engines, from the same words.
-    fn plays(&mut self, state: &mut [u16], record: &[u8]) {
+    fn plays(&mut self, state: &mut [u16], record: &[u8]) -> u64 {
+        let before = state.to_vec();
         let mut other = state.to_vec();
         let answer = library::call(state, record);
         assert_eq!(answer, words::call(&mut other, record), "{record:?}");
@@ -24,6 +32,14 @@ impl Checked {
         self.calls += 1;
         self.refusals[(answer % 65536) as usize] += 1;
         self.verdicts += (answer / 65536) as usize;
+        if answer == 0 {
+            let new = active::gone(state, &before).into_iter();
+            self.lesser += new.filter(|&role| !active::is_held(state, role)).count();
+            if u16::from(record[2]) != DEACTIVATE {
+                self.dropped += active::gone(&before, state).len();
+            }
+        }
+        answer
     }
 
     /// Starting on any words of any length.
@@ -33,11 +49,11 @@ impl Checked {
             let mut other = state.clone();
             assert_eq!(library::start(&mut state), words::start(&mut other));
             assert!(state == other, "words after starting on {length} words");
-            self.plays(&mut state, &random_record(random));
+            self.plays(&mut state, &random_record(random, 16));
         }
     }
 
-    /// The case's own records, random ones, and random ones on a spoilt state: any bit, and each public one.
+    /// The case's own records, random ones, and random ones on spoilt states.
     fn case(&mut self, case: &Case, random: &mut Random) {
         let mut state = case.state.clone();
         for record in records(case) {
@@ -45,25 +61,33 @@ impl Checked {
         }
         assert!(state == case.state, "{} is not left as it was", case.name);
         for _ in 0..400 {
-            self.plays(&mut state, &random_record(random));
+            self.plays(&mut state, &random_record(random, 16));
         }
-        for _ in 0..400 {
+        for (at, bit) in spoilt(case, random) {
             let mut state = case.state.clone();
-            let at = random.draw() as usize % WORDS;
-            state[at] ^= 1 << random.below(16);
-            self.plays(&mut state, &random_record(random));
-        }
-        for n in 0..256 {
-            let mut state = case.state.clone();
-            state[PUBLIC + n / 16] ^= 1 << (n % 16);
-            self.plays(&mut state, &random_record(random));
+            state[at] ^= 1 << bit;
+            self.plays(&mut state, &random_record(random, 16));
         }
     }
 }
 
+/// Words and bits to spoil: any, each public one, one of each session's active roles, and each attachment and held role.
+fn spoilt(case: &Case, random: &mut Random) -> Vec<(usize, u8)> {
+    let mut places = vec![];
+    places.extend((0..400).map(|_| (random.draw() as usize % WORDS, random.below(16))));
+    places.extend((0..=255).map(|n: u8| (PUBLIC + usize::from(n / 16), n % 16)));
+    places.extend((0..256).map(|n| (session(n / 16, n % 16) + 1, random.below(16))));
+    for at in (HELD..HELD + 256).chain(ATTACHMENTS..SESSIONS) {
+        let bits = (0..16).filter(|bit| case.state[at] >> bit & 1 == 1);
+        places.extend(bits.map(|bit| (at, bit)));
+    }
+    places
+}
+
 fn records(case: &Case) -> impl Iterator<Item = &Record> {
     let questions = case.allowed.iter().chain(&case.denied);
-    questions.chain(&case.grants).chain(&case.publications)
+    let changes = case.grants.iter().chain(&case.publications);
+    questions.chain(changes).chain(&case.detachments)
 }
 
 /// Compares the engines on random histories and on every case. Panics where they differ.
@@ -74,10 +98,16 @@ pub fn compare(cases: &[Case]) -> Checked {
     for case in cases {
         checked.case(case, &mut random);
     }
-    let mut state = vec![0; WORDS];
-    library::start(&mut state);
-    for record in random_journal(&mut random, 4000) {
-        checked.plays(&mut state, &record);
+    lesser::compare(&mut checked);
+    for journal in [
+        random_journal(&mut random, 4000),
+        lively_journal(&mut random, 20_000),
+    ] {
+        let mut state = vec![0; WORDS];
+        library::start(&mut state);
+        for record in journal {
+            checked.plays(&mut state, &record);
+        }
     }
     checked
 }

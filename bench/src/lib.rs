@@ -1,5 +1,6 @@
 //! What the benchmark's programs share.
 
+pub mod active;
 pub mod checks;
 pub mod library;
 pub mod random;

@@ -5,7 +5,7 @@ use std::time::Instant;
 use bench::checks;
 use bench::library;
 use bench::random::Random;
-use bench::records::{random_journal, Record};
+use bench::records::{random_journal, Record, ACTIVATE, DETACH};
 use bench::states::{self, Case};
 use bench::timing::{measure, median, ratio, Engine, Task};
 use bench::words::{self, WORDS};
@@ -15,9 +15,10 @@ const PLAIN: usize = 1;
 const ENGINES: [Engine; 2] = [library::call, words::call];
 const ROUNDS: usize = 200;
 
-// Places of the states that others are compared with.
+// Places of the states that others are compared with, and of the last one.
 const EMPTY: usize = 0;
 const DENSE: usize = 2;
+const LESSER: usize = 8;
 
 /// What is played on a case.
 type Records = fn(&Case) -> &[Record];
@@ -25,16 +26,21 @@ type Records = fn(&Case) -> &[Record];
 fn main() {
     let mut cases = vec![states::empty(), states::harvest(), states::dense()];
     cases.extend(states::chains());
+    cases.push(states::lesser());
 
     let checked = checks::compare(&cases);
     println!(
-        "{} calls compared on {} states and a random journal: equal answers and words",
+        "{} calls compared on {} states and two random journals: equal answers and words",
         checked.calls,
         cases.len()
     );
     println!(
         "refusals 0 to 14 given: {:?}, verdict 1: {}",
         checked.refusals, checked.verdicts
+    );
+    println!(
+        "lesser roles activated: {}, active roles dropped: {}",
+        checked.lesser, checked.dropped
     );
 
     let operations: [(&str, Records); 4] = [
@@ -50,11 +56,15 @@ fn main() {
             cases.iter().map(task).collect()
         })
         .collect();
+    let lesser = &cases[LESSER];
+    let mut detachments = Task::new(&lesser.detachments, ENGINES, &lesser.state);
     let mut tasks: Vec<&mut Task> = tables.iter_mut().flatten().collect();
+    tasks.push(&mut detachments);
     measure(&mut tasks, ROUNDS);
     for ((operation, _), table) in operations.iter().zip(&tables) {
         print_table(operation, &cases, table);
     }
+    print_detachments(lesser, &detachments);
     journal();
 }
 
@@ -77,6 +87,24 @@ fn print_table(operation: &str, cases: &[Case], table: &[Task]) {
             task.time(PLAIN)
         );
     }
+}
+
+/// Calls that break the reach of active roles, and calls that restore it and them.
+fn print_detachments(case: &Case, task: &Task) {
+    let of_kind = |kind: u16| {
+        let records = case.detachments.iter();
+        records.filter(|r| r[2..4] == kind.to_le_bytes()).count()
+    };
+    println!();
+    println!(
+        "{}, {} roles detached and attached, {} active roles dropped and activated again: time library/plain {:.2}; nanoseconds a call: library {:.0}, plain {:.0}",
+        case.name,
+        of_kind(DETACH),
+        of_kind(ACTIVATE),
+        task.ratio(),
+        task.time(LIBRARY),
+        task.time(PLAIN)
+    );
 }
 
 /// A long random journal, played from starting by each engine in turn.

@@ -1,11 +1,16 @@
 //! The states that are measured, built by playing records through the library.
 
+mod lesser;
+
 use crate::library;
 use crate::random::Random;
 use crate::records::*;
 use crate::words::WORDS;
 
+pub use lesser::lesser;
+
 /// A state and what is asked on it. Each list is played in turn; the record after a grant or a publication takes it back.
+/// The records after a detachment attach again and activate what it dropped; only the state of lesser roles has some.
 pub struct Case {
     pub name: &'static str,
     pub state: Vec<u16>,
@@ -13,6 +18,7 @@ pub struct Case {
     pub denied: Vec<Record>,
     pub grants: Vec<Record>,
     pub publications: Vec<Record>,
+    pub detachments: Vec<Record>,
 }
 
 /// A state that grows record by record.
@@ -52,6 +58,31 @@ impl Builder {
         }
     }
 
+    /// Trust between random pairs of issuers.
+    fn trusts(&mut self, size: &Size, random: &mut Random) {
+        for i in 0..size.issuers {
+            for j in 0..size.issuers {
+                if i != j && !random.once_in(size.distrust) {
+                    self.plays(TRUST, i, &[j]);
+                }
+            }
+        }
+    }
+
+    /// Random attachments and grants.
+    fn links(&mut self, size: &Size, random: &mut Random) {
+        for (kind, own, wanted) in [
+            (ATTACH, size.roles, size.attachments),
+            (GRANT, size.permissions, size.grants),
+        ] {
+            let mut made = 0;
+            while made < wanted {
+                let (caller, arguments) = random_link(size, own, random);
+                made += usize::from(self.tries(kind, caller, &arguments));
+            }
+        }
+    }
+
     /// Private roles, at most 32, each published and unpublished. No other issuer uses them, so nothing is cleared.
     fn publications(&mut self) -> Vec<Record> {
         let mut publications = vec![];
@@ -88,6 +119,7 @@ pub fn empty() -> Case {
         denied: vec![record(MAY_USE, 0, &[1, 0, 0])],
         grants: vec![record(GRANT, 0, &[1, 0, 0]), record(UNGRANT, 0, &[1, 0, 0])],
         publications,
+        detachments: vec![],
     }
 }
 
@@ -137,13 +169,7 @@ pub fn dense() -> Case {
 fn random_case(name: &'static str, size: &Size, random: &mut Random) -> Case {
     let mut builder = Builder::new();
     builder.enrols(size.issuers, size.users, size.roles, size.permissions);
-    for i in 0..size.issuers {
-        for j in 0..size.issuers {
-            if i != j && !random.once_in(size.distrust) {
-                builder.plays(TRUST, i, &[j]);
-            }
-        }
-    }
+    builder.trusts(size, random);
     for i in 0..size.issuers {
         for u in 0..size.users {
             (0..3).for_each(|_| {
@@ -157,16 +183,7 @@ fn random_case(name: &'static str, size: &Size, random: &mut Random) -> Case {
             });
         }
     }
-    for (kind, own, wanted) in [
-        (ATTACH, size.roles, size.attachments),
-        (GRANT, size.permissions, size.grants),
-    ] {
-        let mut made = 0;
-        while made < wanted {
-            let (caller, arguments) = random_link(size, own, random);
-            made += usize::from(builder.tries(kind, caller, &arguments));
-        }
-    }
+    builder.links(size, random);
     asked(name, builder, size, random)
 }
 
@@ -209,6 +226,7 @@ fn asked(name: &'static str, mut builder: Builder, size: &Size, random: &mut Ran
         denied,
         grants,
         publications,
+        detachments: vec![],
     }
 }
 
@@ -274,5 +292,6 @@ fn chain(name: &'static str, roles: Vec<u8>) -> Case {
             record(UNGRANT, j, &[2, j, last % 16]),
         ],
         publications,
+        detachments: vec![],
     }
 }

@@ -1,9 +1,10 @@
 //! A plain engine on the words of a state, with the same answers and effects as the library.
-//! It has the checks of document 01 and of Card 1, and no proofs.
+//! It has the checks of document 01 and of Cards 1 and 2, and no proofs.
 
 mod effects;
 mod law;
 mod roles;
+mod sessions;
 
 pub const WORDS: usize = 9041;
 pub type State = [u16; WORDS];
@@ -14,10 +15,10 @@ const TRUST: usize = 1;
 const USERS: usize = 17;
 const ROLES: usize = 33;
 const PERMISSIONS: usize = 49;
-const HELD: usize = 65;
+pub const HELD: usize = 65;
 const GRANTS: usize = 321;
-const ATTACHMENTS: usize = 4417;
-const SESSIONS: usize = 8513;
+pub const ATTACHMENTS: usize = 4417;
+pub const SESSIONS: usize = 8513;
 pub const PUBLIC: usize = 9025;
 
 // The user of a closed session.
@@ -28,17 +29,17 @@ fn has(word: u16, n: usize) -> bool {
 }
 
 /// The word of the roles that i@u holds.
-fn held(i: usize, u: usize) -> usize {
+pub fn held(i: usize, u: usize) -> usize {
     HELD + 16 * i + u
 }
 
 /// The first of the sixteen words of the grants of j%p, or of the attachments of j#p.
-fn row(region: usize, j: usize, p: usize) -> usize {
+pub fn row(region: usize, j: usize, p: usize) -> usize {
     region + 16 * (16 * j + p)
 }
 
 /// The word of the user of i/s; the active roles stand in the next one.
-fn session(i: usize, s: usize) -> usize {
+pub fn session(i: usize, s: usize) -> usize {
     SESSIONS + 2 * (16 * i + s)
 }
 
@@ -160,7 +161,7 @@ fn activating_refusal(state: &State, call: &Call) -> u16 {
     if !has(state[ROLES + caller], r) || user == CLOSED {
         return 10;
     }
-    if kind == 19 && !has(state[held(caller, usize::from(user))], r) {
+    if kind == 19 && !roles::entitled(state, caller, usize::from(user), r) {
         return 11;
     }
     unless(has(state[at + 1], r) != (kind == 19), 12)

@@ -1,9 +1,21 @@
 //! What an accepted call changes, cascades included.
 
+use super::sessions::{settle, settle_all};
 use super::{held, row, session, Call, State, ATTACHMENTS, CLOSED, ENROLLED, GRANTS};
 use super::{PERMISSIONS, PUBLIC, ROLES, SESSIONS, TRUST, USERS};
 
 pub fn change(state: &mut State, call: &Call) {
+    first_change(state, call);
+    // What a held role reached is active in its issuer's sessions only; what an attachment reached, in anybody's.
+    match call.kind {
+        12 => settle(state, call.caller),
+        2 | 4 | 8 | 16 | 23 => settle_all(state),
+        _ => {}
+    }
+}
+
+/// What the call itself names, before active roles beyond reach are dropped.
+fn first_change(state: &mut State, call: &Call) {
     let c = call.caller;
     let [x, y, z] = call.arguments;
     match call.kind {
@@ -35,14 +47,7 @@ pub fn change(state: &mut State, call: &Call) {
             state[row(GRANTS, c, x)..][..16].fill(0);
         }
         11 => state[held(c, x)] |= 1 << y,
-        12 => {
-            state[held(c, x)] &= !(1 << y);
-            for pair in sessions(state, c) {
-                if usize::from(pair[0]) == x {
-                    pair[1] &= !(1 << y);
-                }
-            }
-        }
+        12 => state[held(c, x)] &= !(1 << y),
         13 => state[row(GRANTS, c, x) + y] |= 1 << z,
         14 => state[row(GRANTS, c, x) + y] &= !(1 << z),
         15 => state[row(ATTACHMENTS, c, x) + y] |= 1 << z,

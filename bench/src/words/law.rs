@@ -2,6 +2,7 @@
 //! The bits that lack what they need are gathered, and there must be none.
 
 use super::roles::{acyclic, sixteen, Roles};
+use super::sessions::unreached;
 use super::{has, held, row, session, State, ATTACHMENTS, CLOSED, ENROLLED, GRANTS, PERMISSIONS};
 use super::{PUBLIC, ROLES, TRUST, USERS};
 
@@ -69,19 +70,22 @@ fn links_lawful(state: &State, j: usize) -> bool {
     stray.is_empty()
 }
 
-/// The sessions of i.
+/// The sessions of i: closed without active roles, or open for a present user whose roles reach the active ones.
 fn sessions_lawful(state: &State, i: usize) -> bool {
-    (0..16).all(|s| {
+    let mut lesser = 0;
+    let lawful = (0..16).all(|s| {
         let at = session(i, s);
         let user = state[at];
         let active = state[at + 1];
         match user {
             0..=15 => {
                 let user = usize::from(user);
-                has(state[USERS + i], user) && active & !state[held(i, user)] == 0
+                lesser |= active & !state[held(i, user)];
+                has(state[USERS + i], user)
             }
             CLOSED => active == 0,
             _ => false,
         }
-    })
+    });
+    lawful && (lesser == 0 || unreached(state, i, lesser) == [0; 16])
 }

@@ -1,6 +1,6 @@
 //! Sets of roles, and walks along the attachments from junior to senior.
 
-use super::{row, session, State, ATTACHMENTS, GRANTS};
+use super::{held, row, session, State, ATTACHMENTS, GRANTS};
 
 /// A set of roles: bit 16 i + r of 256 for role r of issuer i.
 #[derive(Clone, Copy, Default)]
@@ -63,6 +63,11 @@ impl Roles {
         }
     }
 
+    /// The word of issuer i.
+    pub fn word(&self, i: usize) -> u16 {
+        (self.0[i / 4] >> (16 * (i % 4))) as u16
+    }
+
     /// The role of the lowest number.
     pub fn first(&self) -> Option<usize> {
         let k = self.0.iter().position(|&quarter| quarter != 0)?;
@@ -75,23 +80,36 @@ pub fn sixteen(state: &State, at: usize) -> &[u16; 16] {
     state[at..at + 16].try_into().unwrap()
 }
 
-/// Whether a role of one set reaches a role of the other: climbs from the lower ones.
-fn climbs(state: &State, upper: &Roles, lower: Roles) -> bool {
-    if lower.meets(upper) {
-        return true;
-    }
+/// The roles that reach one of a set. A climb that stops at new ones leaves out those above them.
+fn climb(state: &State, lower: Roles, stops: impl Fn(&Roles) -> bool) -> Roles {
     let mut seen = lower;
     let mut pending = lower;
     while let Some(n) = pending.first() {
         pending.remove(n);
         let new = Roles::seniors(state, n).without(&seen);
-        if new.meets(upper) {
-            return true;
-        }
         seen.join(&new);
+        if stops(&new) {
+            break;
+        }
         pending.join(&new);
     }
-    false
+    seen
+}
+
+/// Whether a role of one set reaches a role of the other: climbs from the lower ones until it meets an upper one.
+fn climbs(state: &State, upper: &Roles, lower: Roles) -> bool {
+    lower.meets(upper) || climb(state, lower, |new| new.meets(upper)).meets(upper)
+}
+
+/// The roles of i that reach i#r.
+pub fn above(state: &State, i: usize, r: usize) -> u16 {
+    climb(state, Roles::of(i, 1 << r), |_| false).word(i)
+}
+
+/// Whether a role that i@u holds reaches i#r.
+pub fn entitled(state: &State, i: usize, u: usize, r: usize) -> bool {
+    let holds = Roles::of(i, state[held(i, u)]);
+    climbs(state, &holds, Roles::of(i, 1 << r))
 }
 
 /// Whether j#q reaches i#r.
