@@ -39,7 +39,7 @@ module _ {ws : List ℕ} (W : LawfulWords ws) where
   numbered : Numbered links
   numbered = attachments-numbered (view ws) (W .lawful .numbered)
 
-  -- only numbered roles are linked, so a role with a number-of above 15 reaches itself alone, and is reached by itself alone
+  -- only numbered roles are linked, so a role with a number above 15 reaches itself alone, and is reached by itself alone
   abbrev Small : Role → Type 0
   Small a = (a .issuer < 16) × (a .number < 16)
 

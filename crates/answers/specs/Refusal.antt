@@ -1,4 +1,4 @@
--- What the guards' code computes: the number-of of the first cause that applies, 0 where none does.
+-- What the guards' code computes: the number of the first cause that applies, 0 where none does.
 use mathlib.Core.Path.{_≡_}
 use mathlib.Core.Option.{Option, none, some}
 use mathlib.Core.Bool.{Bool, true, false}

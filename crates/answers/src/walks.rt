@@ -7,7 +7,7 @@ ghost use Rattle.mtas.specs.Layout.{view};
 ghost use Rattle.mtas.specs.LawTest.{LawfulWords};
 use bits::RoleSet;
 
-// Whether j#q reaches i#r. Where a number-of is above 15, no role but itself does.
+// Whether j#q reaches i#r. Where a number is above 15, no role but itself does.
 pub fn reaches(state: &[u16], j: u8, q: u8, i: u8, r: u8) -> bool
     requires { ⌜ LawfulWords (now state) ⌝ }
     ensures { λ b. ⌜ b ≡ reaches (attachments (view (now (state .entry)))) (j # q) (i # r) ⌝ }

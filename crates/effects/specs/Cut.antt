@@ -1,4 +1,4 @@
--- What the function that cuts a fact asks of the words it is lent, and what it spares in them.
+-- What the function that cuts a fact asks of the words it is lent, and what it leaves of them.
 use mathlib.Core.Path.{_≡_}
 use mathlib.Core.List.{List}
 use mathlib.Core.Bool.{Bool, true, false, not, _||_}

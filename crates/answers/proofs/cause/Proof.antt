@@ -1,4 +1,4 @@
--- `answers::cause` meets its contract: each arm gives its guard's number-of.
+-- `answers::cause` meets its contract: each arm gives its guard's number.
 use borrow.Author.Needs.{needs}
 use Rattle.answers.proofs.Tries.{caused}
 use Rattle.answers.proofs.cause.Statement.{statement}

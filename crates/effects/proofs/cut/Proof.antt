@@ -1,4 +1,4 @@
--- `effects::cut` meets its contract: the strips and the sweep of a fact lie has-strip the state, and take exactly what relies on it.
+-- `effects::cut` meets its contract: the strips and the sweep of a fact lie inside the state, and take exactly what relies on it.
 use borrow.Author.Needs.{needs}
 use Rattle.effects.proofs.Cutting.{all-lie, still-long, sweep-fits, has-cut}
 use Rattle.effects.proofs.cut.Statement.{statement}

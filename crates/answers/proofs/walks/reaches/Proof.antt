@@ -1,4 +1,4 @@
--- `answers::walks::reaches` meets its contract: the walk upwards from the one role sees the other; a role with a number-of above 15 reaches itself alone.
+-- `answers::walks::reaches` meets its contract: the walk upwards from the one role sees the other; a role with a number above 15 reaches itself alone.
 use borrow.Author.Needs.{needs}
 use borrow.Author.Tests.{eq-eqb, ne-eqb}
 use native.Mathlib.Omega.{arith}
