@@ -1,4 +1,4 @@
--- Kind 19 gives 11 exactly where the session's user isn't authorized for the role, and is accepted exactly where it is and the role isn't active already.
+-- Who holds a senior may activate the junior; kind 19 gives 11 exactly where the session's user isn't authorized for the role, and is accepted exactly where it is and the role isn't active already.
 use mathlib.Core.Path.{_≡_, refl, ap, sym, _∙_, subst}
 use mathlib.Core.Logic.{_↔_}
 use mathlib.Core.List.{List, [], _∷_, _++_}
@@ -8,6 +8,7 @@ use native.Mathlib.Omega.{arith}
 use borrow.Author.Tests.{ltb-true, lt-ltb}
 use Rattle.mtas.specs.Fact.{role, opened, active}
 use Rattle.mtas.specs.State.{State, user-of}
+use Rattle.mtas.specs.Hierarchy.{itself, down}
 use Rattle.mtas.specs.Law.{attachments, Authorized, Lawful}
 use Rattle.mtas.specs.Settle.{authorized}
 use Rattle.mtas.specs.Call.{AddActiveRole}
@@ -74,6 +75,7 @@ module _ (st : State) (L : Lawful st) (c s r : ℕ) where
 
 pub activation : Activation
 activation = record {
+  junior = λ st i u h r e a. record { through = h; is-held = e; is-reached = down itself a };
   unauthorized-iff = λ ws b c s r W d. (
     λ h. refused-iff (view ws) (W .lawful) c s r .0 (is-refused ws b W d 11 (omega arith) h),
     λ x. gives ws b W d 11 (refused-iff (view ws) (W .lawful) c s r .1 x),

@@ -7,8 +7,7 @@ use native.Mathlib.Omega.{arith}
 use lib.Dec.{ltb, eqb}
 use borrow.Author.Tests.{ltb-true, ltb-false, eqb-true, eqb-false, lt-ltb, le-ltb}
 use Rattle.mtas.specs.Fact.{Below16}
-use Rattle.mtas.specs.Places.{Places}
-use Rattle.mtas.specs.Layout.{Word, enrolled-issuers, trusted, users, roles, permissions, held, holders, seniors, session-user, active-roles, public-roles, trusted-at, users-at, roles-at, permissions-at, held-at, holders-at, seniors-at, sessions-at, public-at, state-length, address, Region, regions, word-in, word-at, owner}
+use Rattle.mtas.specs.Layout.{Word, enrolled-issuers, trusted, users, roles, permissions, held, holders, seniors, session-user, active-roles, public-roles, trusted-at, users-at, roles-at, permissions-at, held-at, holders-at, seniors-at, sessions-at, public-at, state-length, address, Region, regions, word-in, word-at}
 
 ruleset tests = (arith, ltb-true, ltb-false, eqb-true, eqb-false)
 
@@ -104,34 +103,3 @@ address-word-at k l = (located k l) .its-address
 
 pub word-at-numbered : (k : ℕ) → k < state-length → Below16 (word-numbers (word-at k))
 word-at-numbered k l = (located k l) .numbered
-
--- every word but the first stands in some issuer's name
-owner-below : (w : Word) → Below16 (word-numbers w) → 0 < address w → owner w < 16
-owner-below enrolled-issuers h n = absurd (omega arith)
-owner-below (trusted i) h n = omega arith
-owner-below (users i) h n = omega arith
-owner-below (roles i) h n = omega arith
-owner-below (permissions i) h n = omega arith
-owner-below (held i u) h n = omega arith
-owner-below (holders j p i) h n = omega arith
-owner-below (seniors j q i) h n = omega arith
-owner-below (session-user i s) h n = omega arith
-owner-below (active-roles i s) h n = omega arith
-owner-below (public-roles i) h n = omega arith
-
-pub places : Places
-places = record {
-  at-0 = word-at-address enrolled-issuers tt;
-  from-1 = λ i l. word-at-address (trusted i) (l, tt);
-  from-17 = λ i l. word-at-address (users i) (l, tt);
-  from-33 = λ i l. word-at-address (roles i) (l, tt);
-  from-49 = λ i l. word-at-address (permissions i) (l, tt);
-  from-65 = λ i u l m. word-at-address (held i u) (l, (m, tt));
-  from-321 = λ j p i l m n. word-at-address (holders j p i) (l, (m, (n, tt)));
-  from-4417 = λ j q i l m n. word-at-address (seniors j q i) (l, (m, (n, tt)));
-  from-8513 = λ i s l m. word-at-address (session-user i s) (l, (m, tt));
-  from-8514 = λ i s l m. word-at-address (active-roles i s) (l, (m, tt));
-  from-9025 = λ i l. word-at-address (public-roles i) (l, tt);
-  ends-at = refl;
-  owned = λ k p l. owner-below (word-at k) (word-at-numbered k l) (rw (address-word-at k l) p);
-}

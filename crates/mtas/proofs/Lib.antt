@@ -16,6 +16,7 @@ pub mod Decision
 pub mod Address
 pub mod Cells
 pub mod Words
+pub mod Places
 pub mod LawTest
 pub mod Monitor
 pub mod Verdict
@@ -32,4 +33,3 @@ pub mod Unwinding
 pub mod Remaining
 pub mod Noninterference
 pub mod Journal
-pub mod Cases

@@ -86,9 +86,6 @@ module _ (st : State) where
   pub settle-authorized : {i u r : ℕ} → Authorized st (attachments st) i u r → Authorized (settle st) (attachments (settle st)) i u r
   settle-authorized {i} {u} A = more-authorized (λ h e. settle-holds i u h ∙ e) (λ a b e. settle-links a b ∙ e) A
 
-  pub settled-authorized : {i u r : ℕ} → Authorized (settle st) (attachments (settle st)) i u r → Authorized st (attachments st) i u r
-  settled-authorized {i} {u} A = more-authorized (λ h e. sym (settle-holds i u h) ∙ e) (λ a b e. sym (settle-links a b) ∙ e) A
-
   -- an active role that stays is reached
   pub settle-reached : (i s u r : ℕ) → (settle st) .stands (active i s u r) ≡ true → Authorized st (attachments st) i u r
   settle-reached i s u r h =

@@ -1,7 +1,8 @@
 -- The journal program (document 01): how a journal is read into records, and the lines that are printed.
+use mathlib.Core.Path.{_≡_}
 use mathlib.Core.List.{List, [], _∷_, _++_}
 use mathlib.Core.Bool.{true, false, _&&_}
-use Prim.Native.Nat.{ℕ, zero, suc, _+_}
+use Prim.Native.Nat.{ℕ, zero, suc, _+_, _<_, _≤_}
 use lib.Dec.{eqb, leb, ltb}
 use lib.ListN.{length, take, drop}
 use Rattle.mtas.specs.Record.{two-bytes, kind-of, caller-of}
@@ -72,3 +73,12 @@ output j =
       | false ↦
           lines-from 1 initial-words (read-journal j .records) ++ (last-line (read-journal j .records) (read-journal j .ending) ∷ [])
     ]
+
+-- how journals end: empty, one byte left, a length below 5, a length past the end, and too long
+pub record JournalEnds : Type 0 where
+  pub empty : output [] ≡ end 0 ∷ []
+  pub one-byte : output (6 ∷ []) ≡ broken 0 ∷ []
+  pub below-5 : output (4 ∷ 0 ∷ 1 ∷ 0 ∷ []) ≡ broken 0 ∷ []
+  pub past-the-end : output (6 ∷ 0 ∷ 1 ∷ 0 ∷ 16 ∷ []) ≡ broken 0 ∷ []
+  pub too-long : (j : List ℕ) → 65536 < length j → output j ≡ long ∷ []
+  pub not-too-long : (j : List ℕ) → length j ≤ 65536 → output j ≡ lines-from 1 initial-words (read-journal j .records) ++ (last-line (read-journal j .records) (read-journal j .ending) ∷ [])

@@ -23,4 +23,3 @@ pub mod Activation
 pub mod Histories
 pub mod Remaining
 pub mod Journal
-pub mod Cases

@@ -1,21 +1,38 @@
--- The words of a state by their numbers (document 01, 'The state', and Card 1): what is proved of the layout.
+-- The words of a state by their numbers (document 01, 'The state', and Card 1): the facts that they say, and in whose name they stand.
 use mathlib.Core.Path.{_≡_}
+use mathlib.Core.Bool.{_&&_}
+use mathlib.Core.List.{List}
 use Prim.Native.Nat.{ℕ, _+_, _*_, _<_}
-use Rattle.mtas.specs.Layout.{enrolled-issuers, trusted, users, roles, permissions, held, holders, seniors, session-user, active-roles, public-roles, state-length, word-at, owner}
+use lib.Dec.{eqb}
+use lib.ListN.{getD}
+use Rattle.bits.specs.Bit.{bit}
+use Rattle.mtas.specs.Fact.{Fact, enrolled, trusts, user, role, permission, public, holds, granted, attached, opened, active}
+use Rattle.mtas.specs.Layout.{state-length, word-at, owner, view}
+
+-- bit n of word k says whether the fact stands
+abbrev Bit : ℕ → ℕ → Fact → Type 0
+Bit k n f = (ws : List ℕ) → (view ws) .stands f ≡ bit (getD ws k 0) n
+
+-- word k stands in i's name
+abbrev Owned : ℕ → ℕ → Type 0
+Owned k i = owner (word-at k) ≡ i
+
+abbrev session : ℕ → ℕ → ℕ
+session i s = 8513 + 2 * (16 * i + s)
 
 pub record Places : Type 0 where
-  pub at-0 : word-at 0 ≡ enrolled-issuers
-  pub from-1 : (i : ℕ) → i < 16 → word-at (1 + i) ≡ trusted i
-  pub from-17 : (i : ℕ) → i < 16 → word-at (17 + i) ≡ users i
-  pub from-33 : (i : ℕ) → i < 16 → word-at (33 + i) ≡ roles i
-  pub from-49 : (i : ℕ) → i < 16 → word-at (49 + i) ≡ permissions i
-  pub from-65 : (i u : ℕ) → i < 16 → u < 16 → word-at (65 + 16 * i + u) ≡ held i u
-  pub from-321 : (j p i : ℕ) → j < 16 → p < 16 → i < 16 → word-at (321 + 16 * (16 * j + p) + i) ≡ holders j p i
-  pub from-4417 : (j q i : ℕ) → j < 16 → q < 16 → i < 16 → word-at (4417 + 16 * (16 * j + q) + i) ≡ seniors j q i
-  pub from-8513 : (i s : ℕ) → i < 16 → s < 16 → word-at (8513 + 2 * (16 * i + s)) ≡ session-user i s
-  pub from-8514 : (i s : ℕ) → i < 16 → s < 16 → word-at (8513 + 2 * (16 * i + s) + 1) ≡ active-roles i s
+  pub at-0 : (i : ℕ) → i < 16 → Bit 0 i (enrolled i)
+  pub from-1 : (i j : ℕ) → i < 16 → j < 16 → Bit (1 + i) j (trusts i j) × Owned (1 + i) i
+  pub from-17 : (i u : ℕ) → i < 16 → u < 16 → Bit (17 + i) u (user i u) × Owned (17 + i) i
+  pub from-33 : (i r : ℕ) → i < 16 → r < 16 → Bit (33 + i) r (role i r) × Owned (33 + i) i
+  pub from-49 : (i p : ℕ) → i < 16 → p < 16 → Bit (49 + i) p (permission i p) × Owned (49 + i) i
+  pub from-65 : (i u r : ℕ) → i < 16 → u < 16 → r < 16 → Bit (65 + 16 * i + u) r (holds i u r) × Owned (65 + 16 * i + u) i
+  pub from-321 : (j p i r : ℕ) → j < 16 → p < 16 → i < 16 → r < 16 → Bit (321 + 16 * (16 * j + p) + i) r (granted j p i r) × Owned (321 + 16 * (16 * j + p) + i) j
+  pub from-4417 : (j q i r : ℕ) → j < 16 → q < 16 → i < 16 → r < 16 → Bit (4417 + 16 * (16 * j + q) + i) r (attached j q i r) × Owned (4417 + 16 * (16 * j + q) + i) j
+  -- two words a session: its user, and that user's active roles
+  pub from-8513 : (i s u : ℕ) → i < 16 → s < 16 → u < 16 → ((ws : List ℕ) → (view ws) .stands (opened i s u) ≡ eqb (getD ws (session i s) 0) u) × Owned (session i s) i
+  pub from-8514 : (i s u r : ℕ) → i < 16 → s < 16 → u < 16 → r < 16
+      → ((ws : List ℕ) → (view ws) .stands (active i s u r) ≡ eqb (getD ws (session i s) 0) u && bit (getD ws (session i s + 1) 0) r) × Owned (session i s + 1) i
   -- 'sixteen words at its end (9,041), public roles per issuer'
-  pub from-9025 : (i : ℕ) → i < 16 → word-at (9025 + i) ≡ public-roles i
+  pub from-9025 : (i r : ℕ) → i < 16 → r < 16 → Bit (9025 + i) r (public i r) × Owned (9025 + i) i
   pub ends-at : state-length ≡ 9041
-  -- every word but the first stands in some issuer's name
-  pub owned : (k : ℕ) → 0 < k → k < state-length → owner (word-at k) < 16

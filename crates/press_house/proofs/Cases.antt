@@ -1,32 +1,29 @@
--- Cases A to L, the further cases, those of Cards 1 and 2 and document 01's journal: computed on states, and carried to words and bytes.
+-- Cases A to L, the further cases and those of Cards 1 and 2: computed on states, and carried to words and bytes.
 use mathlib.Core.Path.{_≡_, refl, ap, sym, _∙_}
 use mathlib.Core.Logic.{_⊎_, inl, inr}
 use mathlib.Core.List.{List, [], _∷_}
 use mathlib.Core.Bool.{true, false, decide}
 use Prim.Native.Nat.{ℕ}
 use native.Mathlib.Decide.{ℕ-discrete}
-use native.Mathlib.Omega.{arith}
-use lib.ListN.{getD}
 use Rattle.bits.specs.Below.{any-below, find-below}
-use Rattle.bits.specs.Bit.{pack}
 use Rattle.bits.proofs.Booleans.{clash}
-use Rattle.mtas.specs.Fact.{role, attached, opened, active, same, numbers, above-15}
+use Rattle.mtas.specs.Fact.{attached, opened, active, same, numbers, above-15}
 use Rattle.mtas.specs.Needs.{needs, exposed}
 use Rattle.mtas.specs.State.{State, nothing, listed, put, cut}
 use Rattle.mtas.specs.Hierarchy.{itself, within}
 use Rattle.mtas.specs.Law.{In, here, there, attachments, Authorized, Lawful}
 use Rattle.mtas.specs.Settle.{authorized, settle}
 use Rattle.mtas.specs.Answer.{first-cause, outcome, leads-to, may-use, answer, next}
-use Rattle.mtas.specs.Layout.{word-in, word-at, encode}
+use Rattle.mtas.specs.Layout.{encode}
 use Rattle.mtas.specs.Record.{decode}
 use Rattle.mtas.specs.Monitor.{answered, state-after}
 use Rattle.mtas.specs.Histories.{History, final}
-use Rattle.mtas.specs.Cases.{S-facts, S, Case, try, twelve-cases, further-cases, indoor-cases, lesser-cases, dropped-cases, between-cases, NoneStand, Holds, Every}
+use Rattle.press_house.specs.Cases.{S-facts, S, Case, try, twelve-cases, further-cases, indoor-cases, lesser-cases, dropped-cases, between-cases, NoneStand, Holds, Every}
 use Rattle.mtas.proofs.Facts.{All, all-in, put-new, put-cases, below-16}
 use Rattle.mtas.proofs.Law.{nothing-lawful, put-lawful, put-acyclic}
 use Rattle.mtas.proofs.Step.{differ}
-use Rattle.mtas.proofs.Words.{encode-at, view-encode}
+use Rattle.mtas.proofs.Words.{view-encode}
 use Rattle.mtas.proofs.Monitor.{monitor-encode, state-after-lawful}
 
 -- each fact of S has what it needs in S
 S-supported : All (λ f. All (λ g. In g S-facts) (needs f)) S-facts
@@ -142,30 +139,3 @@ between = ((refl, (refl, (refl, tt))), ((refl, (refl, tt)), ((refl, (refl, (refl
 
 pub between-hold : Every between-cases
 between-hold = every between-cases between
-
--- ---- where the words of S stand, by their numbers; and those of its two links
-abbrev At : State → ℕ → ℕ → Type 0
-At st k x = getD (encode st) k 0 ≡ x
-
-pub S-words : At S 0 3 × At S 1 3 × At S 2 2 × At S 17 8 × At S 33 12 × At S 50 32 × At S 68 4 × At S 657 4 × At S 8521 3 × At S 8522 4 × At S 9025 4
-unfolding word-at word-in pack put listed same decide ℕ-discrete find-below
-S-words = (
-  encode-at S 0 (omega arith),
-  encode-at S 1 (omega arith),
-  encode-at S 2 (omega arith),
-  encode-at S 17 (omega arith),
-  encode-at S 33 (omega arith),
-  encode-at S 50 (omega arith),
-  encode-at S 68 (omega arith),
-  encode-at S 657 (omega arith),
-  encode-at S 8521 (omega arith),
-  encode-at S 8522 (omega arith),
-  encode-at S 9025 (omega arith),
-)
-
-abbrev S-linked : State
-S-linked = put (role 1 6 ∷ attached 0 3 0 2 ∷ attached 1 6 0 3 ∷ []) S
-
-pub link-words : At S-linked 34 64 × At S-linked 4465 4 × At S-linked 4769 8
-unfolding word-at word-in pack put listed same decide ℕ-discrete find-below
-link-words = (encode-at S-linked 34 (omega arith), encode-at S-linked 4465 (omega arith), encode-at S-linked 4769 (omega arith))

@@ -2,16 +2,14 @@
 use mathlib.Core.Path.{_≡_}
 use mathlib.Core.List.{List, [], _∷_, _++_}
 use mathlib.Core.Bool.{false}
-use Prim.Native.Nat.{ℕ, _<_, _≤_}
-use lib.ListN.{length}
+use Prim.Native.Nat.{ℕ}
 use Rattle.mtas.specs.Fact.{Fact, enrolled, trusts, user, role, permission, public, holds, granted, attached, opened, active}
 use Rattle.mtas.specs.State.{State, nothing, put}
 use Rattle.mtas.specs.Answer.{Answer, accepts, refuses}
 use Rattle.mtas.specs.Layout.{encode, view}
 use Rattle.mtas.specs.Record.{record-of}
-use Rattle.mtas.specs.Monitor.{initial-words, monitor}
+use Rattle.mtas.specs.Monitor.{monitor}
 use Rattle.mtas.specs.Histories.{History, final}
-use Rattle.mtas.specs.Journal.{read-journal, Line, played, end, broken, long, lines-from, last-line, output}
 
 -- 'issuers 0 and 1 are enrolled, 0 trusts 1, 0@3 holds 0#2, 0#3 is present and unheld, 0/4 is open for 0@3 with role 2 active, and 1%5 is granted to 0#2; nothing else'; 'In S 0#2 is public'
 abbrev pub S-facts : List Fact
@@ -226,29 +224,3 @@ Holds (try earlier b a gone) =
 abbrev pub Every : List Case → Type 0
 Every [] = Unit
 Every (c ∷ l) = Holds c × Every l
-
--- document 01's journal, and what it prints
-abbrev pub example-journal : List ℕ
-example-journal =
-    6 ∷ 0 ∷ 1 ∷ 0 ∷ 16 ∷ 0 ∷ 6 ∷ 0 ∷ 1 ∷ 0 ∷ 16 ∷ 1 ∷ 6 ∷ 0 ∷ 7 ∷ 0 ∷ 0 ∷ 2 ∷ 8 ∷ 0 ∷ 13 ∷ 0 ∷ 1 ∷ 5 ∷ 0 ∷ 2
-    ∷ 6 ∷ 0 ∷ 3 ∷ 0 ∷ 0 ∷ 1 ∷ 8 ∷ 0 ∷ 13 ∷ 0 ∷ 1 ∷ 5 ∷ 0 ∷ 2 ∷ []
-
-abbrev pub example-lines : List Line
-example-lines =
-    played 1 1 16 0 0
-    ∷ played 2 1 16 0 0
-    ∷ played 3 7 0 0 0
-    ∷ played 4 13 1 9 0
-    ∷ played 5 3 0 0 0
-    ∷ played 6 13 1 10 0
-    ∷ end 6 ∷ []
-
--- how other journals end: empty, one byte left, a length below 5, a length past the end, and too long
-pub record JournalEnds : Type 0 where
-  pub prints : output example-journal ≡ example-lines
-  pub empty : output [] ≡ end 0 ∷ []
-  pub one-byte : output (6 ∷ []) ≡ broken 0 ∷ []
-  pub below-5 : output (4 ∷ 0 ∷ 1 ∷ 0 ∷ []) ≡ broken 0 ∷ []
-  pub past-the-end : output (6 ∷ 0 ∷ 1 ∷ 0 ∷ 16 ∷ []) ≡ broken 0 ∷ []
-  pub too-long : (j : List ℕ) → 65536 < length j → output j ≡ long ∷ []
-  pub not-too-long : (j : List ℕ) → length j ≤ 65536 → output j ≡ lines-from 1 initial-words (read-journal j .records) ++ (last-line (read-journal j .records) (read-journal j .ending) ∷ [])
