@@ -1,36 +1,32 @@
 -- The walk's set is what the model's test of reaching asks for.
-use mathlib.Core.Path.{_≡_, ap, sym, subst, _∙_}
+use mathlib.Core.Path.{_≡_, sym, subst, _∙_}
 use mathlib.Core.Bool.{Bool, true, false}
 use mathlib.Core.List.{List, [], _∷_}
 use Prim.Native.Nat.{ℕ, _<_}
-use lib.ListN.{take, drop}
 use Rattle.bits.specs.RoleSet.{in-set}
 use Rattle.bits.proofs.Booleans.{clash, same-test}
 use Rattle.mtas.specs.Hierarchy.{Role, _#_, Graph, Reaches, itself, down, same-role, reaches}
 use Rattle.mtas.specs.Law.{attachments}
-use Rattle.mtas.specs.Layout.{seniors-at, links-length, view}
+use Rattle.mtas.specs.Layout.{view}
 use Rattle.mtas.specs.LawTest.{LawfulWords}
 use Rattle.mtas.proofs.Facts.{none-above-15}
 use Rattle.mtas.proofs.Hierarchy.{Numbered, same-role-true, same-role-refl, reaches-sound, reaches-complete}
 use Rattle.mtas.proofs.Authorized.{attachments-numbered}
 use Rattle.hierarchy.specs.Links.{linked, Reaching, ReachingOne}
-use Rattle.hierarchy.proofs.Links.{linked-attachments}
+use Rattle.hierarchy.proofs.Links.{attachment-words, linked-attachments}
 use Rattle.facts.specs.Table.{Above}
 use Rattle.facts.proofs.Places.{small}
 
--- the copy's links are the attachments that stand
-copied : (ws copy : List ℕ) → copy ≡ take links-length (drop seniors-at ws) → linked copy ≡ attachments (view ws)
-copied ws copy e = ap linked e ∙ linked-attachments ws
-
-pub reach-told : (ws copy : List ℕ) {set found : List ℕ} → copy ≡ take links-length (drop seniors-at ws) → Reaching (linked copy) set found → Reaching (attachments (view ws)) set found
-reach-told ws copy {set} {found} e r = subst (λ g. Reaching g set found) (copied ws copy e) r
+-- the walk upwards from a set
+pub reach-told : (ws : List ℕ) {set found : List ℕ} → Reaching (linked (attachment-words ws)) set found → Reaching (attachments (view ws)) set found
+reach-told ws {set} {found} r = subst (λ g. Reaching g set found) (linked-attachments ws) r
 
 -- the walk upwards from the one role
-pub reaches-told : (ws copy : List ℕ) {j q i r : ℕ} {a b : Bool} {found : List ℕ} → copy ≡ take links-length (drop seniors-at ws) → Above (j ∷ q ∷ i ∷ r ∷ []) a → a ≡ false
-    → ReachingOne (linked copy) i r found → b ≡ in-set found j q → b ≡ reaches (attachments (view ws)) (j # q) (i # r)
-reaches-told ws copy {j} {q} {i} {r} {found = found} c x t f e =
+pub reaches-told : (ws : List ℕ) {j q i r : ℕ} {a b : Bool} {found : List ℕ} → Above (j ∷ q ∷ i ∷ r ∷ []) a → a ≡ false
+    → ReachingOne (linked (attachment-words ws)) i r found → b ≡ in-set found j q → b ≡ reaches (attachments (view ws)) (j # q) (i # r)
+reaches-told ws {j} {q} {i} {r} {found = found} x t f e =
     let n = small x t in
-    e ∙ subst (λ g. ReachingOne g i r found) (copied ws copy c) f .each j q (n .0) (n .1 .0)
+    e ∙ subst (λ g. ReachingOne g i r found) (linked-attachments ws) f .each j q (n .0) (n .1 .0)
 
 module _ {ws : List ℕ} (W : LawfulWords ws) where
   abbrev links : Graph

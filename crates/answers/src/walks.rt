@@ -1,4 +1,4 @@
-// Walks on a copy of the attachment words: refusal 13, and the verdict of kind 21.
+// Walks in the attachment words of the lent state: refusal 13, and the verdict of kind 21.
 ghost use mathlib.Core.Path.{_≡_};
 ghost use Rattle.mtas.specs.Hierarchy.{_#_, reaches};
 ghost use Rattle.mtas.specs.Law.{attachments};
@@ -15,8 +15,8 @@ pub fn reaches(state: &[u16], j: u8, q: u8, i: u8, r: u8) -> bool
     if facts::above_15(j, q, i as u16, r) {
         return j == i && q == r;
     }
-    let links = hierarchy::attachments_of(state);
-    let found = hierarchy::above_one(&links, i as usize, r);
+    let links = &state[layout::SENIORS_AT..layout::SESSIONS_AT];
+    let found = hierarchy::above_one(links, i as usize, r);
     found.has(j as usize, q)
 }
 
@@ -30,8 +30,7 @@ pub fn may_use(state: &[u16], j: u8, p: u8, i: u8, s: u8) -> bool
     }
     let active = state[layout::active_roles(i, s)];
     let holders = RoleSet::row(state, layout::holders(j, p, 0));
-    let links = hierarchy::attachments_of(state);
-    let found = hierarchy::above(&links, holders);
+    let found = hierarchy::above(&state[layout::SENIORS_AT..layout::SESSIONS_AT], holders);
     let own = found.words[i as usize];
     own & active != 0
 }

@@ -63,10 +63,3 @@ linked-attachments ws = λ t a b. same a b t
     same a b =
         same-test _ _ (λ e. sym (link-same a b (let n = linked-numbered (attachment-words ws) a b e in (omega arith, (omega arith, (omega arith, (omega arith, tt)))))) ∙ e)
         (λ e. link-same a b (view-numbered ws (attached (b .issuer) (b .number) (a .issuer) (a .number)) e) ∙ e)
-
--- a copy of the attachment words, word by word
-pub copied : (state links : List ℕ) {links₀ : List ℕ} → length state ≡ state-length → length links ≡ links-length
-    → Updated (in-run 0 links-length) (λ k x. getD state (seniors-at + k) 0) links₀ links → links ≡ attachment-words state
-copied state links h l u =
-    ext-getD 0 links _ (simp (length-take, length-drop) (omega arith))
-    (λ i m. rw (getD-take links-length (drop seniors-at state) i 0 (omega arith), getD-drop seniors-at state i 0, u .each i, run-in 0 links-length i (omega arith) (omega arith)))

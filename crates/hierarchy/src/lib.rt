@@ -2,8 +2,8 @@
 // A role's row of the attachment words is the set of its direct seniors, so both walk upwards, a row at a time.
 ghost use mathlib.Core.Path.{_≡_};
 ghost use Prim.Native.Nat.{_<_};
-ghost use lib.ListN.{length, take, drop};
-ghost use Rattle.mtas.specs.Layout.{seniors-at, links-length, state-length};
+ghost use lib.ListN.{length};
+ghost use Rattle.mtas.specs.Layout.{links-length};
 ghost use Rattle.hierarchy.specs.Links.{linked, Reaching, ReachingOne};
 ghost use Rattle.hierarchy.specs.Climbing.{BitsIn, Lifted, Climbed};
 use bits::RoleSet;
@@ -11,18 +11,6 @@ use bits::RoleSet;
 mod circles;
 
 pub use circles::acyclic;
-
-// The attachment words of a state, copied.
-pub fn attachments_of(state: &[u16]) -> [u16; layout::LINKS]
-    requires { ⌜ length (now state) ≡ state-length ⌝ }
-    ensures { λ r. ⌜ r ≡ take links-length (drop seniors-at (now (state .entry))) ⌝ }
-{
-    let mut links = [0u16; layout::LINKS];
-    for k in 0..layout::LINKS {
-        links[k] = state[layout::SENIORS_AT + k];
-    }
-    links
-}
 
 // The direct seniors of the roles of issuer i that are bits of the word are seen too, and those of the roles of i that come so.
 fn lift(links: &[u16], i: usize, word: u16, mut seen: RoleSet) -> RoleSet

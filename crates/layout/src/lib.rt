@@ -22,9 +22,6 @@ pub const PUBLIC_AT: usize = 9025;
 
 pub const STATE_LENGTH: usize = 9041;
 
-// The words of grants, and as many of attachments.
-pub const LINKS: usize = 4096;
-
 // The user of a closed session.
 pub const NOBODY: u16 = 65535;
 

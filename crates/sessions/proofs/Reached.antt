@@ -7,7 +7,7 @@ use Prim.Native.Nat.{ℕ, _-_, _<_, _≤_}
 use native.Mathlib.Omega.{arith}
 use lib.Bits.{bitAnd}
 use lib.Dec.{eqb}
-use lib.ListN.{take, drop, getD}
+use lib.ListN.{getD}
 use borrow.Author.Tests.{lt-ltb, le-ltb, eqb-false, eqb-true, ne-eqb, not-true}
 use Rattle.bits.specs.Bit.{bit, with-bit}
 use Rattle.bits.proofs.Bit.{bit-0, bit-and, bit-not, bit-with}
@@ -17,12 +17,12 @@ use Rattle.mtas.specs.Fact.{holds}
 use Rattle.mtas.specs.Hierarchy.{Role, _#_, Graph, Reaches, itself, down}
 use Rattle.mtas.specs.Law.{attachments, Authorized}
 use Rattle.mtas.specs.Settle.{authorized}
-use Rattle.mtas.specs.Layout.{held, session-user, active-roles, seniors-at, links-length, address, read, view}
+use Rattle.mtas.specs.Layout.{held, session-user, active-roles, address, read, view}
 use Rattle.mtas.proofs.Authorized.{attachments-numbered, authorized-sound, authorized-complete}
 use Rattle.mtas.proofs.Hierarchy.{Numbered, reaches-sound, reaches-complete}
 use Rattle.mtas.proofs.Words.{view-says, view-numbered}
 use Rattle.hierarchy.specs.Links.{linked, ReachingOne}
-use Rattle.hierarchy.proofs.Links.{linked-attachments}
+use Rattle.hierarchy.proofs.Links.{attachment-words, linked-attachments}
 use Rattle.sessions.specs.Lesser.{lesser, Over, holds-one, reached-in}
 
 -- by the test on the user's number
@@ -34,7 +34,7 @@ module _ (ws : List ℕ) (i u roles : ℕ) where
   of-nobody l = rw (le-ltb u 16 l)
 
 -- the walk in the attachment words sees the roles of i that reach i#r
-pub over-told : (ws : List ℕ) {i r : ℕ} {found : List ℕ} → i < 16 → ReachingOne (linked (take links-length (drop seniors-at ws))) i r found → Over ws i r (getD found i 0)
+pub over-told : (ws : List ℕ) {i r : ℕ} {found : List ℕ} → i < 16 → ReachingOne (linked (attachment-words ws)) i r found → Over ws i r (getD found i 0)
 over-told ws {i} {r} {found} li x = record { each = λ h l. subst (λ g. ReachingOne g i r found) (linked-attachments ws) x .each i h li l }
 
 module _ (ws : List ℕ) where
