@@ -2,7 +2,8 @@
 
    `rt staticlib yermoitu` proves the monitor and writes target/staticlib/libyermoitu.a, for x86-64
    Linux. Link it behind your own files. It has no variables of its own, takes no memory from the
-   heap, needs about 10 KB of stack, and calls nothing but memcpy and memset.
+   heap, needs less than 2 KB of stack, and calls nothing but memcpy. (Where a loader looks memcpy up
+   only in its first call, that call needs the loader's stack too, some 2.5 KB.)
 
    A state is YERMOITU_WORDS unsigned 16-bit words that the caller lends for each call. A call is a
    record of bytes: its length (2 bytes, the low byte first, counting the whole record), its kind (2
