@@ -4,17 +4,14 @@ use mathlib.Core.Bool.{Bool, true, false}
 use mathlib.Core.List.{List, [], _∷_}
 use Prim.Native.Nat.{ℕ, _+_, _*_, _<_}
 use native.Mathlib.Omega.{arith}
-use lib.ListN.{length, getD, take, drop, length-take, length-drop}
-use lib.Seq.{ext-getD, getD-take, getD-drop}
+use lib.ListN.{getD, take, drop}
+use lib.Seq.{getD-take, getD-drop}
 use Rattle.bits.specs.Bit.{bit}
-use Rattle.bits.specs.Stride.{in-run}
-use Rattle.bits.specs.Update.{Updated}
 use Rattle.bits.proofs.Booleans.{clash, same-test}
-use Rattle.bits.proofs.Stride.{run-in}
 use Rattle.mtas.specs.Fact.{attached, above-15, Below16}
 use Rattle.mtas.specs.Hierarchy.{Role, _#_, nth-role}
 use Rattle.mtas.specs.Law.{attachments}
-use Rattle.mtas.specs.Layout.{seniors, seniors-at, links-length, state-length, address, view}
+use Rattle.mtas.specs.Layout.{seniors, seniors-at, links-length, address, view}
 use Rattle.mtas.proofs.Facts.{below-16, none-above-15}
 use Rattle.mtas.proofs.Hierarchy.{Numbered}
 use Rattle.mtas.proofs.Words.{view-says, view-numbered}
