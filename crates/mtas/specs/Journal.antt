@@ -15,12 +15,16 @@ pub data Found : Type 0 where
   whole : ℕ → Found
   partial : Found
 
+-- a length below this is broken
+abbrev pub least-length : ℕ
+least-length = 5
+
 unfoldable pub first-of : List ℕ → Found
 first-of left =
     elim (eqb (length left) 0) [
       | true ↦ no-more
       | false ↦
-          elim (leb 2 (length left) && (leb 5 (two-bytes left 0) && leb (two-bytes left 0) (length left))) [ true ↦ whole (two-bytes left 0) | false ↦ partial ]
+          elim (leb 2 (length left) && (leb least-length (two-bytes left 0) && leb (two-bytes left 0) (length left))) [ true ↦ whole (two-bytes left 0) | false ↦ partial ]
     ]
 
 pub data Ending : Type 0 where
@@ -31,7 +35,7 @@ pub record Reading : Type 0 where
   pub records : History  -- each a part of the journal's own bytes
   pub ending : Ending
 
--- the records in the bytes that are left from a byte place on; every record has 5 bytes at least, so n bytes hold at most n
+-- the records in the bytes that are left from a byte place on; a journal's record has 5 bytes at least, so n bytes hold at most n
 unfoldable pub read-from : ℕ → ℕ → List ℕ → Reading
 read-from zero at left = record { records = []; ending = broken-at at }
 read-from (suc n) at left = elim (first-of left) [
@@ -74,11 +78,34 @@ output j =
           lines-from 1 initial-words (read-journal j .records) ++ (last-line (read-journal j .records) (read-journal j .ending) ∷ [])
     ]
 
--- how journals end: empty, one byte left, a length below 5, a length past the end, and too long
+-- 5 bytes or more, with their number in front
+abbrev pub Whole : List ℕ → Type 0
+Whole b = (5 ≤ length b) × (two-bytes b 0 ≡ length b)
+
+abbrev pub AllWhole : History → Type 0
+AllWhole [] = Unit
+AllWhole (b ∷ h) = Whole b × AllWhole h
+
+abbrev pub joined : History → List ℕ
+joined [] = []
+joined (b ∷ h) = b ++ joined h
+
+-- the bytes of a record 'that has under 2 bytes left, a length below 5, or one past the end'
+pub data Broken (left : List ℕ) : Type 0 where
+  under-2 : length left ≡ 1 → Broken left
+  length-below-5 : 2 ≤ length left → two-bytes left 0 < 5 → Broken left
+  length-past-the-end : 2 ≤ length left → length left < two-bytes left 0 → Broken left
+
+-- what a journal prints, by its bytes
 pub record JournalEnds : Type 0 where
+  -- 'An empty journal prints end 0'
   pub empty : output [] ≡ end 0 ∷ []
-  pub one-byte : output (6 ∷ []) ≡ broken 0 ∷ []
-  pub below-5 : output (4 ∷ 0 ∷ 1 ∷ 0 ∷ []) ≡ broken 0 ∷ []
-  pub past-the-end : output (6 ∷ 0 ∷ 1 ∷ 0 ∷ 16 ∷ []) ≡ broken 0 ∷ []
+  -- 'end and the number of records'
+  pub whole-records : (h : History) → AllWhole h → length (joined h) ≤ 65536 → output (joined h) ≡ lines-from 1 initial-words h ++ (end (length h) ∷ [])
+  -- 'broken and the byte place, from 0, of the record', behind any whole ones
+  pub broken-behind : (h : History) (left : List ℕ) → AllWhole h → Broken left → length (joined h ++ left) ≤ 65536
+      → output (joined h ++ left) ≡ lines-from 1 initial-words h ++ (broken (length (joined h)) ∷ [])
+  -- 'Over 65,536 bytes it prints only long'
   pub too-long : (j : List ℕ) → 65536 < length j → output j ≡ long ∷ []
-  pub not-too-long : (j : List ℕ) → length j ≤ 65536 → output j ≡ lines-from 1 initial-words (read-journal j .records) ++ (last-line (read-journal j .records) (read-journal j .ending) ∷ [])
+  -- whatever is read from a journal is whole
+  pub all-whole : (j : List ℕ) → AllWhole (read-journal j .records)
