@@ -1,8 +1,12 @@
 -- A record played on the lent words: each way out of `call` is what the definition says.
 use mathlib.Core.Path.{_≡_, refl, ap, sym, _∙_}
+use mathlib.Core.Logic.{⊎-elim}
 use mathlib.Core.Bool.{Bool, true, false, not}
-use mathlib.Core.List.{List}
+use mathlib.Core.List.{List, [], _∷_}
 use Prim.Native.Nat.{ℕ}
+use native.Mathlib.Omega.{arith}
+use types.Run.{OneOf}
+use denote.Enum.Declared.{tagOf}
 use lib.ListN.{length}
 use borrow.Author.Tests.{eq-eqb, ne-eqb, not-true, not-false}
 use Rattle.mtas.specs.Call as model
@@ -19,7 +23,8 @@ use Rattle.mtas.proofs.Step.{refused-answer, refused-equal}
 use Rattle.record.specs.Decoded.{call-of, request-of, refusal-of, Decodes}
 use Rattle.record.specs.declared.Call.{Call}
 use Rattle.record.specs.declared.Decoded.{Decoded}
-use Rattle.record.specs.declared.Decoded.the-variants.{Request as Requested, Undecodable}
+use Rattle.record.specs.declared.Decoded.the-variants.{Request as Requested, Undecodable, SignOfLife}
+use Rattle.record.proofs.Decoded.{the-type}
 use Rattle.answers.specs.Refusal.{Refusal, Verdict}
 use Rattle.answers.proofs.Refusals.{accepted-of}
 use Rattle.effects.specs.Effect.{Accepted, Left}
@@ -48,6 +53,12 @@ accepted-verdict : (st : State) (c : ℕ) (k : model.Call) → outcome st c k �
 unfolding answer
 accepted-verdict st c k e = rw e
 
+-- the tags of a call, of what can't be decoded and of a sign of life are 0, 1 and 2
+neither : (d : Decoded) → OneOf (0 ∷ 1 ∷ []) (tagOf the-type d) → OneOf (1 ∷ 2 ∷ []) (tagOf the-type d) → d ≡ Undecodable
+neither (Requested c k) h g = absurd (⊎-elim (λ e. omega arith) (λ e. omega arith) g)
+neither Undecodable h g = refl
+neither SignOfLife h g = absurd (⊎-elim (λ e. omega arith) (λ e. omega arith) h)
+
 -- d is the record decoded
 module _ {ws : List ℕ} (b : List ℕ) (W : LawfulWords ws) {d : Decoded} (e : Decodes b d) where
   -- the table's answer to the record, and the words that it leaves
@@ -56,8 +67,17 @@ module _ {ws : List ℕ} (b : List ℕ) (W : LawfulWords ws) {d : Decoded} (e : 
       monitor-lawful ws b W
       ∙ ap (λ q. record { answer = answered (view ws) q; words = encode (state-after (view ws) q) }) (sym (e .same-request) ∙ ap request-of h)
 
-  pub undecoded : {x : Answer} → d ≡ Undecodable → x ≡ two-numbers (refusal-of Undecodable) 0 → Gives (monitor ws b) (x .refusal) (x .verdict) ws
-  undecoded h q = gives q (rw (given h) (record { same-refusal = refl; same-verdict = refl; same-words = sym (encode-view ws W) }))
+  -- one that is no call leaves the words as they are
+  idle : (x : Decoded) {a : Answer} → d ≡ x → answered (view ws) (request-of x) ≡ record { refusal = refusal-of x; verdict = 0 } → state-after (view ws) (request-of x) ≡ view ws
+      → a ≡ two-numbers (refusal-of x) 0 → Gives (monitor ws b) (a .refusal) (a .verdict) ws
+  idle x h t u q =
+      gives q (rw (given h) (record { same-refusal = ap (λ a. a .refusal) (sym t); same-verdict = ap (λ a. a .verdict) (sym t); same-words = sym (ap encode u ∙ encode-view ws W) }))
+
+  pub signed : {a : Answer} → d ≡ SignOfLife → a ≡ two-numbers 0 0 → Gives (monitor ws b) (a .refusal) (a .verdict) ws
+  signed h q = idle SignOfLife h refl refl q
+
+  pub undecoded : {a : Answer} → OneOf (0 ∷ 1 ∷ []) (tagOf the-type d) → OneOf (1 ∷ 2 ∷ []) (tagOf the-type d) → a ≡ two-numbers 3 0 → Gives (monitor ws b) (a .refusal) (a .verdict) ws
+  undecoded h g q = idle Undecodable (neither d h g) refl refl q
 
   module _ {c r : ℕ} {k : Call} (h : d ≡ Requested c k) (t : Refusal ws c (call-of k) r) where
     pub refused-call : {x : Answer} → (r ≡ 0 → ⊥) → x ≡ two-numbers r 0 → Gives (monitor ws b) (x .refusal) (x .verdict) ws

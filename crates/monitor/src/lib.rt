@@ -12,7 +12,7 @@ pub struct Answer {
     pub verdict: u16,
 }
 
-// The answer to a refused call, and to starting: verdict 0.
+// The answer to a refused call, to starting and to a sign of life: verdict 0.
 fn refuse(n: u16) -> Answer
     ensures { λ r. ⌜ r ≡ two-numbers n 0 ⌝ }
 {
@@ -63,7 +63,11 @@ pub fn call(state: &mut [u16], record: &[u8]) -> Answer
     if !law.lawful {
         return refuse(2);
     }
-    let Decoded::Request(caller, call) = record::decode(record) else {
+    let decoded = record::decode(record);
+    let Decoded::Request(caller, call) = decoded else {
+        if let Decoded::SignOfLife = decoded {
+            return refuse(0);
+        }
         return refuse(3);
     };
     let refusal = answers::refusal(state, caller, call);

@@ -10,7 +10,7 @@ use Rattle.mtas.specs.Settle.{authorized}
 use Rattle.mtas.specs.Call.{Call}
 use Rattle.mtas.specs.Answer.{Outcome, accepted, refused, outcome, answer}
 use Rattle.mtas.specs.Layout.{view}
-use Rattle.mtas.specs.Record.{Request, undecodable, request, decode}
+use Rattle.mtas.specs.Record.{Request, sign-of-life, undecodable, request, decode}
 use Rattle.mtas.specs.Monitor.{answered}
 use Rattle.mtas.specs.Disclosure.{OthersAffair, its-users, held-roles, its-sessions, active-roles, SameBut, NothingDisclosed}
 use Rattle.bits.proofs.Below.{any-ext}
@@ -76,5 +76,6 @@ nothing-disclosed ws vs b W W' B =
     ∙ sym (ap (λ r. r .answer .refusal) (monitor-lawful vs b W'))
   where
     go : (x : Request) → decode b ≡ x → answered (view ws) x .refusal ≡ answered (view vs) x .refusal
+    go sign-of-life d = refl
     go undecodable d = refl
     go (request c k) d = same-refusal (view ws) (view vs) c (B c k d) k

@@ -33,3 +33,4 @@ pub mod Unwinding
 pub mod Remaining
 pub mod Noninterference
 pub mod Journal
+pub mod SignOfLife

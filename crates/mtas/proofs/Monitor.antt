@@ -16,7 +16,7 @@ use Rattle.mtas.specs.Call.{Call}
 use Rattle.mtas.specs.Answer.{Outcome, accepted, refused, outcome, answer, next}
 use Rattle.mtas.specs.Layout.{Cell, sixteen, its-user, in-session, cell, state-length, word-at, contents, encode, view}
 use Rattle.mtas.specs.LawTest.{LawfulWords, lawful-words}
-use Rattle.mtas.specs.Record.{Request, undecodable, request, decode}
+use Rattle.mtas.specs.Record.{Request, sign-of-life, undecodable, request, decode}
 use Rattle.mtas.specs.Monitor.{turned-down, initial, initial-words, start, answered, state-after, monitor}
 use Rattle.mtas.proofs.Law.{nothing-lawful}
 use Rattle.mtas.proofs.Guards.{refused-not-0}
@@ -39,6 +39,7 @@ pub initial-lawful : LawfulWords initial-words
 initial-lawful = rw initial-is-nothing (encode-lawful nothing nothing-lawful)
 
 pub state-after-lawful : (st : State) → Lawful st → (x : Request) → Lawful (state-after st x)
+state-after-lawful st L sign-of-life = L
 state-after-lawful st L undecodable = L
 state-after-lawful st L (request c k) = next-lawful st L c k
 
@@ -100,6 +101,7 @@ pub refused-words : (ws b : List ℕ) → ((monitor ws b) .answer .refusal ≡ 0
 refused-words ws b h = go (monitor-cases ws b)
   where
     back : (x : Request) → LawfulWords ws → (answered (view ws) x .refusal ≡ 0 → ⊥) → encode (state-after (view ws) x) ≡ ws
+    back sign-of-life W n = absurd (n refl)
     back undecodable W n = encode-view ws W
     back (request c k) W n = by (outcome (view ws) c k) refl
       where

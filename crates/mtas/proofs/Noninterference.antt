@@ -15,7 +15,7 @@ use Rattle.mtas.specs.Call.{Call, AssignTrust}
 use Rattle.mtas.specs.Answer.{accepted, outcome}
 use Rattle.mtas.specs.Decision.{MayUsePermission}
 use Rattle.mtas.specs.Layout.{enrolled-issuers, Cell, sixteen, its-user, in-session, cell, word-at, contents, encode, view}
-use Rattle.mtas.specs.Record.{Request, undecodable, request, decode, inside, remains}
+use Rattle.mtas.specs.Record.{Request, sign-of-life, undecodable, request, decode, inside, remains}
 use Rattle.mtas.specs.Monitor.{initial-words, answered, state-after, monitor}
 use Rattle.mtas.specs.Histories.{History, final, purge, answers, TrustRefused, NoTrustIn, SameInName, Noninterference, OnlyMembersReach}
 use Rattle.mtas.proofs.Hierarchy.{Numbered}
@@ -63,6 +63,7 @@ module _ (member : ℕ → Bool) where
     Goes x y = Secure ins (state-after st x) × Secure ins (state-after st' y) × Agree ins (state-after st x) (state-after st' y)
 
     inside-step : (x : Request) → remains member x ≡ true → ((c : ℕ) (k : Call) → x ≡ request c k → Calm ins st c k) → (answered st x ≡ answered st' x) × Goes x x
+    inside-step sign-of-life r q = absurd (clash r refl)
     inside-step undecodable r q = absurd (clash r refl)
     inside-step (request c k) r q = (
       answer-same ins refl st st' S S' A c k r,
@@ -70,6 +71,7 @@ module _ (member : ℕ → Bool) where
     )
 
     outside-step : (x : Request) → remains member x ≡ false → ((c : ℕ) (k : Call) → x ≡ request c k → Calm ins st c k) → Goes x undecodable
+    outside-step sign-of-life r q = (S, S', A)
     outside-step undecodable r q = (S, S', A)
     outside-step (request c k) r q = (next-secure ins refl st S c k (q c k refl), S', λ f o. outsider-unseen ins refl st S c k r f o ∙ A f o)
 

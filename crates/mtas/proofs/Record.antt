@@ -1,4 +1,4 @@
--- Decoding the record of a call gives the caller and the call back, and nothing but such a record gives a call.
+-- Decoding the record of a call gives the caller and the call back, and nothing but such a record gives a call; only the empty record is the sign of life.
 use mathlib.Core.Path.{_≡_, refl, ap, sym, subst, _∙_}
 use mathlib.Core.Bool.{Bool, true, false, _&&_}
 use mathlib.Core.List.{List, [], _∷_}
@@ -6,11 +6,11 @@ use Prim.Native.Nat.{ℕ, zero, suc, _+_, _/_, _%_, _<_, _≤_}
 use native.Mathlib.Omega.{arith}
 use lib.Dec.{eqb, ltb, leb}
 use lib.ListN.{length, getD, drop}
-use borrow.Author.Tests.{eqb-true, ltb-true, leb-true}
+use borrow.Author.Tests.{eqb-true, ltb-true, leb-true, lt-leb}
 use Rattle.bits.specs.Below.{tabulate}
 use Rattle.bits.proofs.Booleans.{and-both}
 use Rattle.mtas.specs.Call.{Call, AddIssuer, RemoveIssuer, AssignTrust, RevokeTrust, AddUser, RemoveUser, AddRole, RemoveRole, AddPerm, RemovePerm, AssignUser, RevokeUser, AssignPerm, RevokePerm, AssignRH, RevokeRH, CreateSession, DeleteSession, AddActiveRole, DropActiveRole, CheckAccess, PublishRole, UnpublishRole, arguments}
-use Rattle.mtas.specs.Record.{Form, forms, Kind, unknown, known, nth-kind, kind-at, undecodable, request, fill, header, two-bytes, kind-of, decode, kind, encode-call}
+use Rattle.mtas.specs.Record.{Form, forms, Kind, unknown, known, nth-kind, kind-at, sign-of-life, undecodable, request, fill, header, two-bytes, kind-of, caller-of, decode-bytes, decode, kind, encode-call}
 use Rattle.mtas.proofs.Step.{differ}
 
 pub decode-encoded : (c : ℕ) (k : Call) → decode (encode-call c k) ≡ request c k
@@ -38,6 +38,38 @@ decode-encoded c (DropActiveRole x y) = refl
 decode-encoded c (CheckAccess x y z) = refl
 decode-encoded c (PublishRole x) = refl
 decode-encoded c (UnpublishRole x) = refl
+
+-- ---- the empty record, and those of '1 to 4 bytes'
+
+-- one byte or more is read by `decode-bytes`
+pub decode-is : (b : List ℕ) → 0 < length b → decode b ≡ decode-bytes b
+unfolding decode
+decode-is [] n = absurd (omega arith)
+decode-is (x ∷ l) n = refl
+
+pub short : (b : List ℕ) → 0 < length b → length b < header → decode b ≡ undecodable
+short b n m = decode-is b n ∙ rw (lt-leb header (length b) m, decode-bytes)
+
+-- and is no sign of life
+no-sign : (b : List ℕ) → decode-bytes b ≡ sign-of-life → ⊥
+no-sign b e = go (leb header (length b) && eqb (two-bytes b 0) (length b)) refl
+  where
+    counted : (f : Form) (x : Bool) → elim x [ true ↦ request (caller-of b) (f .call (λ n. getD (drop header b) n 0)) | false ↦ undecodable ] ≡ sign-of-life → ⊥
+    counted f true h = differ (cc)
+    counted f false h = differ (cc)
+
+    of-kind : (k : Kind) → fill (caller-of b) k (drop header b) ≡ sign-of-life → ⊥
+    of-kind unknown h = differ (cc)
+    of-kind (known f) h = counted f (eqb (length (drop header b)) (f .count)) h
+
+    go : (x : Bool) → leb header (length b) && eqb (two-bytes b 0) (length b) ≡ x → ⊥
+    go true t = of-kind (kind-at (kind-of b)) (rw (t, decode-bytes) at e)
+    go false t = let h = rw (t, decode-bytes) at e in differ (cc)
+
+pub only-empty : (b : List ℕ) → decode b ≡ sign-of-life → b ≡ []
+unfolding decode
+only-empty [] e = refl
+only-empty (x ∷ l) e = absurd (no-sign (x ∷ l) e)
 
 -- ---- the calls of a form have its kind and as many arguments as it counts, few enough for a length of one byte
 abbrev Fits : ℕ → Form → Type 0
@@ -97,10 +129,9 @@ filled c (suc n) l d k e = go (nth-kind forms n) refl
     go unknown t = let h = rw t at e in absurd (differ (cc))
     go (known f) t = let (a, b) = fits-at forms 1 n forms-fit f t in counted f a b (eqb (length l) (f .count)) refl (rw t at e)
 
--- whatever decodes is the record of its call
-pub only-encoded : (b : List ℕ) (c : ℕ) (k : Call) → decode b ≡ request c k → b ≡ encode-call c k
-unfolding decode encode-call
-only-encoded b c k e = go (leb header (length b) && eqb (two-bytes b 0) (length b)) refl
+some-encoded : (b : List ℕ) (c : ℕ) (k : Call) → decode-bytes b ≡ request c k → b ≡ encode-call c k
+unfolding encode-call
+some-encoded b c k e = go (leb header (length b) && eqb (two-bytes b 0) (length b)) refl
   where
     laid : (b : List ℕ) → 5 ≤ length b → two-bytes b 0 ≡ length b → Filled (getD b 4 0) (kind-of b) (drop header b) c k → b ≡ encode-call c k
     laid [] l f h = absurd (omega arith)
@@ -122,5 +153,11 @@ only-encoded b c k e = go (leb header (length b) && eqb (two-bytes b 0) (length 
     go : (x : Bool) → leb header (length b) && eqb (two-bytes b 0) (length b) ≡ x → b ≡ encode-call c k
     go true t =
         let (l, f) = and-both _ _ t in
-        laid b (leb-true header (length b) l) (eqb-true (two-bytes b 0) (length b) f) (filled (getD b 4 0) (kind-of b) (drop header b) c k (rw (t, decode) at e))
-    go false t = let h = rw (t, decode) at e in absurd (differ (cc))
+        laid b (leb-true header (length b) l) (eqb-true (two-bytes b 0) (length b) f) (filled (getD b 4 0) (kind-of b) (drop header b) c k (rw (t, decode-bytes) at e))
+    go false t = let h = rw (t, decode-bytes) at e in absurd (differ (cc))
+
+-- whatever decodes to a call is the call's record
+pub only-encoded : (b : List ℕ) (c : ℕ) (k : Call) → decode b ≡ request c k → b ≡ encode-call c k
+unfolding decode
+only-encoded [] c k e = absurd (differ (cc))
+only-encoded (x ∷ l) c k e = some-encoded (x ∷ l) c k e

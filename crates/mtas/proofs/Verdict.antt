@@ -11,7 +11,7 @@ use Rattle.mtas.specs.Rule.{Effect, puts, cuts, decides, rule}
 use Rattle.mtas.specs.Answer.{Outcome, accepted, refused, outcome, decides-on, verdict-of, reply, answer}
 use Rattle.mtas.specs.Layout.{view}
 use Rattle.mtas.specs.LawTest.{LawfulWords}
-use Rattle.mtas.specs.Record.{Request, undecodable, request, decode}
+use Rattle.mtas.specs.Record.{Request, sign-of-life, undecodable, request, decode}
 use Rattle.mtas.specs.Monitor.{Result, turned-down, answered, monitor}
 use Rattle.mtas.specs.Decision.{Entitled}
 use Rattle.mtas.proofs.Step.{differ, refused-answer}
@@ -73,6 +73,7 @@ module _ (ws b : List ℕ) where
       answered-so W = sym (ap (λ r. r .answer) (monitor-lawful ws b W))
 
       by : LawfulWords ws → (x : Request) → decode b ≡ x → answered (view ws) x .verdict ≡ 1 → Entitled ws b
+      by W sign-of-life d v = absurd (differ v)
       by W undecodable d v = absurd (differ v)
       by W (request c k) d v = on (outcome (view ws) c k) refl
         where
@@ -121,6 +122,7 @@ module _ (ws b : List ℕ) where
       replies st c e (refused n) = inr refl
 
       by : (x : Request) → OneOr0 (answered (view ws) x .verdict)
+      by sign-of-life = inr refl
       by undecodable = inr refl
       by (request c k) = replies (view ws) c (rule (user-of (view ws) c) c k .effect) (outcome (view ws) c k)
 

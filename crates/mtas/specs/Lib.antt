@@ -23,3 +23,4 @@ pub mod Activation
 pub mod Histories
 pub mod Remaining
 pub mod Journal
+pub mod SignOfLife

@@ -9,7 +9,7 @@ use Rattle.mtas.specs.State.{State}
 use Rattle.mtas.specs.Answer.{Answer, accepts, refuses, answer, next}
 use Rattle.mtas.specs.Layout.{Cell, sixteen, its-user, in-session, cell, word-at, state-length, view, encode}
 use Rattle.mtas.specs.LawTest.{lawful-words}
-use Rattle.mtas.specs.Record.{Request, undecodable, request, bytes-refusal, decode}
+use Rattle.mtas.specs.Record.{Request, sign-of-life, undecodable, request, bytes-refusal, decode}
 
 -- a call's answer, and the words that it leaves
 pub record Result : Type 0 where
@@ -33,12 +33,14 @@ initial-words = tabulate state-length (λ k. initial (cell (word-at k)))
 unfoldable pub start : List ℕ → Result
 start ws = elim (eqb (length ws) state-length) [ false ↦ turned-down 1 ws | true ↦ record { answer = accepts 0; words = initial-words } ]
 
--- a decoded record on a lawful state: refusal 3, or the table's answer
+-- a decoded record on a lawful state: 'accepted with verdict 0' and 'changes no word', refusal 3, or the table's answer
 abbrev pub answered : State → Request → Answer
+answered st sign-of-life = record { refusal = bytes-refusal sign-of-life; verdict = 0 }
 answered st undecodable = refuses (bytes-refusal undecodable)
 answered st (request c k) = answer st c k
 
 abbrev pub state-after : State → Request → State
+state-after st sign-of-life = st
 state-after st undecodable = st
 state-after st (request c k) = next st c k
 

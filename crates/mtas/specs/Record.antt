@@ -49,13 +49,15 @@ abbrev pub kind-at : ℕ → Kind
 kind-at zero = unknown
 kind-at (suc k) = nth-kind forms k
 
--- a record as the monitor takes it: refusal 3's row, or a caller and a call
+-- a record as the monitor takes it: a press with nothing to report (Card 4), refusal 3's row, or a caller and a call
 pub data Request : Type 0 where
+  sign-of-life : Request
   undecodable : Request
   request : ℕ → Call → Request
 
 -- the refusal that its bytes alone give it, 0 for none
 abbrev pub bytes-refusal : Request → ℕ
+bytes-refusal sign-of-life = 0
 bytes-refusal undecodable = 3
 bytes-refusal (request c k) = 0
 
@@ -77,10 +79,15 @@ kind-of b = two-bytes b 2
 abbrev pub caller-of : List ℕ → ℕ
 caller-of b = getD b 4 0
 
--- 'record under 5 bytes, length field wrong, kind unknown, or length wrong for the kind': undecodable.
+-- refusal 3's row, '1 to 4 bytes' (Card 4), 'length field wrong, kind unknown, or length wrong for the kind': undecodable.
 -- It is said of lists of any numbers; those above 255, which no record has, are read like the others.
+abbrev pub decode-bytes : List ℕ → Request
+decode-bytes b = elim (leb header (length b) && eqb (two-bytes b 0) (length b)) [ true ↦ fill (caller-of b) (kind-at (kind-of b)) (drop header b) | false ↦ undecodable ]
+
+-- 'a record of zero bytes' is the sign of life
 unfoldable pub decode : List ℕ → Request
-decode b = elim (leb header (length b) && eqb (two-bytes b 0) (length b)) [ true ↦ fill (caller-of b) (kind-at (kind-of b)) (drop header b) | false ↦ undecodable ]
+decode [] = sign-of-life
+decode (x ∷ l) = decode-bytes (x ∷ l)
 
 -- the kind of a call
 abbrev pub kind : Call → ℕ
@@ -126,5 +133,6 @@ inside member c = eqb c 16 || (ltb c 16 && member c)
 
 -- whether a record is the operator's or a member's; 'a record that can't be decoded, the empty one too, or names a caller above 16 counts as an outsider's'
 abbrev pub remains : (ℕ → Bool) → Request → Bool
+remains member sign-of-life = false
 remains member undecodable = false
 remains member (request c k) = inside member c

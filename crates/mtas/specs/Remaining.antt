@@ -4,7 +4,7 @@ use mathlib.Core.List.{List, [], _∷_}
 use mathlib.Core.Bool.{Bool, true, false}
 use Prim.Native.Nat.{ℕ, _<_}
 use Rattle.mtas.specs.Call.{Call}
-use Rattle.mtas.specs.Record.{undecodable, request, decode}
+use Rattle.mtas.specs.Record.{encode-call}
 use Rattle.mtas.specs.Monitor.{monitor}
 use Rattle.mtas.specs.Histories.{History, purge, answers}
 
@@ -21,10 +21,10 @@ module _ (member : ℕ → Bool) where
 
   pub record Remaining : Type 0 where
     -- 'A record that can't be decoded, the empty one too, or names a caller above 16 counts as an outsider's'
-    pub undecoded : (b : List ℕ) → decode b ≡ undecodable → LeftOut b
+    pub undecoded : (b : List ℕ) → ((c : ℕ) (k : Call) → b ≡ encode-call c k → ⊥) → LeftOut b
     pub empty : LeftOut []
-    pub above-16 : (b : List ℕ) (c : ℕ) (k : Call) → decode b ≡ request c k → 16 < c → LeftOut b
+    pub above-16 : (c : ℕ) (k : Call) → 16 < c → LeftOut (encode-call c k)
     -- 'a record not already counted as an outsider's is its caller's'
-    pub outsider's : (b : List ℕ) (c : ℕ) (k : Call) → decode b ≡ request c k → c < 16 → member c ≡ false → LeftOut b
-    pub member's : (b : List ℕ) (c : ℕ) (k : Call) → decode b ≡ request c k → c < 16 → member c ≡ true → Stays b
-    pub operator's : (b : List ℕ) (k : Call) → decode b ≡ request 16 k → Stays b
+    pub outsider's : (c : ℕ) (k : Call) → c < 16 → member c ≡ false → LeftOut (encode-call c k)
+    pub member's : (c : ℕ) (k : Call) → c < 16 → member c ≡ true → Stays (encode-call c k)
+    pub operator's : (k : Call) → Stays (encode-call 16 k)

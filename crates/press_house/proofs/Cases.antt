@@ -1,29 +1,36 @@
--- Cases A to L, the further cases and those of Cards 1 and 2: computed on states, and carried to words and bytes.
+-- Cases A to L, the further cases and those of Cards 1, 2 and 4: computed on states, and carried to words and bytes.
 use mathlib.Core.Path.{_≡_, refl, ap, sym, _∙_}
 use mathlib.Core.Logic.{_⊎_, inl, inr}
 use mathlib.Core.List.{List, [], _∷_}
 use mathlib.Core.Bool.{true, false, decide}
 use Prim.Native.Nat.{ℕ}
 use native.Mathlib.Decide.{ℕ-discrete}
+use native.Mathlib.Omega.{arith}
+use lib.Dec.{eqb}
+use lib.ListN.{length-append}
+use Rattle.bits.specs.Bit.{bit}
 use Rattle.bits.specs.Below.{any-below, find-below}
 use Rattle.bits.proofs.Booleans.{clash}
-use Rattle.mtas.specs.Fact.{attached, opened, active, same, numbers, above-15}
+use Rattle.bits.proofs.Bit.{bit-0}
+use Rattle.bits.proofs.Below.{length-tabulate, getD-tabulate}
+use Rattle.mtas.specs.Fact.{user, attached, opened, active, same, numbers, above-15}
 use Rattle.mtas.specs.Needs.{needs, exposed}
 use Rattle.mtas.specs.State.{State, nothing, listed, put, cut}
 use Rattle.mtas.specs.Hierarchy.{itself, within}
 use Rattle.mtas.specs.Law.{In, here, there, attachments, Authorized, Lawful}
 use Rattle.mtas.specs.Settle.{authorized, settle}
 use Rattle.mtas.specs.Answer.{first-cause, outcome, leads-to, may-use, answer, next}
-use Rattle.mtas.specs.Layout.{encode}
+use Rattle.mtas.specs.Layout.{users-at, sessions-at, state-length, encode}
+use Rattle.mtas.specs.LawTest.{LawfulWords}
 use Rattle.mtas.specs.Record.{decode}
 use Rattle.mtas.specs.Monitor.{answered, state-after}
 use Rattle.mtas.specs.Histories.{History, final}
-use Rattle.press_house.specs.Cases.{S-facts, S, Case, try, twelve-cases, further-cases, indoor-cases, lesser-cases, dropped-cases, between-cases, NoneStand, Holds, Every}
+use Rattle.press_house.specs.Cases.{S-facts, S, Case, try, twelve-cases, further-cases, indoor-cases, lesser-cases, dropped-cases, between-cases, sign-of-life-cases, zeros, NoState, NoneStand, Holds, Every}
 use Rattle.mtas.proofs.Facts.{All, all-in, put-new, put-cases, below-16}
 use Rattle.mtas.proofs.Law.{nothing-lawful, put-lawful, put-acyclic}
 use Rattle.mtas.proofs.Step.{differ}
-use Rattle.mtas.proofs.Words.{view-encode}
-use Rattle.mtas.proofs.Monitor.{monitor-encode, state-after-lawful}
+use Rattle.mtas.proofs.Words.{encode-length, view-says, view-encode}
+use Rattle.mtas.proofs.Monitor.{monitor-encode, state-after-lawful, wrong-length, not-lawful}
 
 -- each fact of S has what it needs in S
 S-supported : All (λ f. All (λ g. In g S-facts) (needs f)) S-facts
@@ -139,3 +146,24 @@ between = ((refl, (refl, (refl, tt))), ((refl, (refl, tt)), ((refl, (refl, (refl
 
 pub between-hold : Every between-cases
 between-hold = every between-cases between
+
+signs-of-life : EveryOnStates sign-of-life-cases
+unfolding after-all decode answer next outcome first-cause leads-to may-use authorized settle within put cut listed same exposed decide ℕ-discrete any-below find-below
+signs-of-life = ((refl, tt), ((refl, tt), ((refl, tt), ((refl, tt), ((refl, tt), tt)))))
+
+pub sign-of-life-holds : Every sign-of-life-cases
+sign-of-life-holds = every sign-of-life-cases signs-of-life
+
+-- zeros have an open session of a user that isn't there
+zeros-not-lawful : LawfulWords zeros → ⊥
+zeros-not-lawful W =
+    let zero-at = getD-tabulate state-length (λ k. 0) in
+    clash
+    (W .lawful .supported (opened 0 0 0) (user 0 0) (view-says zeros (opened 0 0 0) (omega arith, (omega arith, (omega arith, tt))) ∙ ap (λ x. eqb x 0) (zero-at sessions-at (omega arith))) here)
+    (view-says zeros (user 0 0) (omega arith, (omega arith, tt)) ∙ ap (λ x. bit x 0) (zero-at users-at (omega arith)) ∙ bit-0 0)
+
+pub no-state : NoState
+no-state = record {
+  one-more = wrong-length _ [] (λ e. omega (arith, length-append (encode S) (0 ∷ []), encode-length S));
+  never-started = not-lawful zeros [] (length-tabulate state-length (λ k. 0)) zeros-not-lawful;
+}

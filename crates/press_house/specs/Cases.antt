@@ -1,14 +1,15 @@
--- Document 01's twelve press-house cases, as one table and one statement; further cases that a wrong walk, guard or cascade would fail; and Card 1's and 2's.
+-- Document 01's twelve press-house cases, as one table and one statement; further cases that a wrong walk, guard or cascade would fail; and those of Cards 1, 2 and 4.
 use mathlib.Core.Path.{_≡_}
 use mathlib.Core.List.{List, [], _∷_, _++_}
 use mathlib.Core.Bool.{false}
 use Prim.Native.Nat.{ℕ}
+use Rattle.bits.specs.Below.{tabulate}
 use Rattle.mtas.specs.Fact.{Fact, enrolled, trusts, user, role, permission, public, holds, granted, attached, opened, active}
 use Rattle.mtas.specs.State.{State, nothing, put}
 use Rattle.mtas.specs.Answer.{Answer, accepts, refuses}
-use Rattle.mtas.specs.Layout.{encode, view}
+use Rattle.mtas.specs.Layout.{state-length, encode, view}
 use Rattle.mtas.specs.Record.{record-of}
-use Rattle.mtas.specs.Monitor.{monitor}
+use Rattle.mtas.specs.Monitor.{turned-down, monitor}
 use Rattle.mtas.specs.Histories.{History, final}
 
 -- 'issuers 0 and 1 are enrolled, 0 trusts 1, 0@3 holds 0#2, 0#3 is present and unheld, 0/4 is open for 0@3 with role 2 active, and 1%5 is granted to 0#2; nothing else'; 'In S 0#2 is public'
@@ -85,8 +86,8 @@ further-cases =
     ∷ then-try (record-of 18 0 (9 ∷ [])) (accepts 0) (opened 0 9 6 ∷ active 0 9 6 7 ∷ [])
     -- a session of an issuer that isn't enrolled: no cause of refusal
     ∷ try [] (record-of 21 1 (5 ∷ 7 ∷ 4 ∷ [])) (accepts 0) (enrolled 7 ∷ [])
-    -- refusal 3's row: the empty record, a length field too large, kinds 24 and 257, an argument too few
-    ∷ try [] [] (refuses 3) []
+    -- refusal 3's row: no caller, a length field too large, kinds 24 and 257, an argument too few
+    ∷ try [] (4 ∷ 0 ∷ 1 ∷ 0 ∷ []) (refuses 3) []
     ∷ try [] (7 ∷ 0 ∷ 3 ∷ 0 ∷ 0 ∷ 1 ∷ []) (refuses 3) []
     ∷ try [] (record-of 24 0 (1 ∷ [])) (refuses 3) []
     ∷ try [] (6 ∷ 0 ∷ 1 ∷ 1 ∷ 16 ∷ 2 ∷ []) (refuses 3) []
@@ -211,6 +212,27 @@ between-cases =
     ∷ still-active (by-way-of-1 ++ (record-of 15 0 (3 ∷ 0 ∷ 2 ∷ []) ∷ record-of 16 1 (6 ∷ 0 ∷ 2 ∷ []) ∷ [])) (attached 1 6 0 2 ∷ [])
     ∷ try (by-way-of-1 ++ (an-hour ++ (record-of 16 1 (6 ∷ 0 ∷ 2 ∷ []) ∷ []))) (record-of 21 0 (1 ∷ 0 ∷ 4 ∷ [])) (accepts 0) (active 0 4 3 3 ∷ attached 1 6 0 2 ∷ [])
     ∷ []
+
+-- Card 4: 'The press's sign of life'
+abbrev pub sign-of-life-cases : List Case
+sign-of-life-cases =
+    try [] [] (accepts 0) []
+    -- one byte or more is no sign of life, even where the length field is right
+    ∷ try [] (0 ∷ []) (refuses 3) []
+    ∷ try [] (2 ∷ 0 ∷ []) (refuses 3) []
+    ∷ try [] (3 ∷ 0 ∷ 1 ∷ []) (refuses 3) []
+    -- after it case A is decided as before
+    ∷ try ([] ∷ []) (record-of 21 1 (5 ∷ 0 ∷ 4 ∷ [])) (accepts 1) []
+    ∷ []
+
+-- words that were never started
+abbrev pub zeros : List ℕ
+zeros = tabulate state-length (λ k. 0)
+
+-- the sign of life on words that are no state: a word more than S has, and zeros
+pub record NoState : Type 0 where
+  pub one-more : monitor (encode S ++ (0 ∷ [])) [] ≡ turned-down 1 (encode S ++ (0 ∷ []))
+  pub never-started : monitor zeros [] ≡ turned-down 2 zeros
 
 abbrev pub NoneStand : State → List Fact → Type 0
 NoneStand st [] = Unit

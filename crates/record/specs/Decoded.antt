@@ -6,11 +6,11 @@ use Prim.Native.Nat.{ℕ}
 use lib.Dec.{eqb}
 use lib.ListN.{length, getD}
 use Rattle.mtas.specs.Call as model
-use Rattle.mtas.specs.Record.{Request, request, undecodable, bytes-refusal, kind-at, fill, decode}
+use Rattle.mtas.specs.Record.{Request, request, undecodable, sign-of-life, bytes-refusal, kind-at, fill, decode}
 use Rattle.record.specs.declared.Call.{Call}
 use Rattle.record.specs.declared.Call.the-variants.{AddIssuer, RemoveIssuer, AssignTrust, RevokeTrust, AddUser, RemoveUser, AddRole, RemoveRole, AddPerm, RemovePerm, AssignUser, RevokeUser, AssignPerm, RevokePerm, AssignRH, RevokeRH, CreateSession, DeleteSession, AddActiveRole, DropActiveRole, CheckAccess, PublishRole, UnpublishRole}
 use Rattle.record.specs.declared.Decoded.{Decoded}
-use Rattle.record.specs.declared.Decoded.the-variants.{Request as Requested, Undecodable}
+use Rattle.record.specs.declared.Decoded.the-variants.{Request as Requested, Undecodable, SignOfLife}
 use Rattle.record.specs.declared.Kind.{Kind}
 use Rattle.record.specs.declared.Kind.the-variants.{Unknown, Known}
 
@@ -44,11 +44,13 @@ call-of (UnpublishRole r) = model.UnpublishRole r
 abbrev pub request-of : Decoded → Request
 request-of (Requested c k) = request c (call-of k)
 request-of Undecodable = undecodable
+request-of SignOfLife = sign-of-life
 
--- document 01's number for it: 3 where it can't be decoded, else none yet
+-- document 01's number for it: 3 where it can't be decoded, else 0
 abbrev pub refusal-of : Decoded → ℕ
 refusal-of (Requested c k) = 0
 refusal-of Undecodable = 3
+refusal-of SignOfLife = 0
 
 -- the bytes b are decoded into d: its number, and the caller and the call
 pub record Decodes (b : List ℕ) (d : Decoded) : Type 0 where

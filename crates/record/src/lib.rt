@@ -35,10 +35,11 @@ pub enum Call {
     UnpublishRole(u8),
 }
 
-// A caller and its call, or a record of refusal 3's row.
+// A caller and its call, a record of refusal 3's row, or a record of no bytes, a press's sign of life.
 pub enum Decoded {
     Request(u8, Call),
     Undecodable,
+    SignOfLife,
 }
 
 // How many arguments a kind has, and its call with them.
@@ -110,6 +111,9 @@ pub fn decode(record: &[u8]) -> Decoded
     ensures { λ r. ⌜ Decodes (now («record» .entry)) r ⌝ }
 {
     let length = record.len();
+    if length == 0 {
+        return Decoded::SignOfLife;
+    }
     if length < HEADER {
         return Decoded::Undecodable;
     }
