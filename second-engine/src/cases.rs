@@ -1,5 +1,5 @@
-//! "Twelve press-house cases", cases of public roles and of lesser ones, as records with the
-//! paper's answers.
+//! "Twelve press-house cases", cases of public roles, of lesser ones and of short records, as
+//! records with the paper's answers.
 
 use crate::record::{encode, OPERATOR};
 
@@ -144,6 +144,20 @@ const LESSER_ROLES: [Rows; 7] = [
     ("a junior, session closed", &[(15, 0, &[3, 0, 2]), (19, 0, &[5, 3])], (10, 0)),
 ];
 
+/// "The press's sign of life": the only record, from S.
+#[rustfmt::skip]
+const SHORT_RECORDS: [(&str, &[u8], Expected); 9] = [
+    ("a sign of life", &[], (0, 0)),
+    ("1 byte", &[1], (3, 0)),
+    ("1 byte, length 0", &[0], (3, 0)),
+    ("2 bytes", &[2, 0], (3, 0)),
+    ("2 bytes, length 0", &[0, 0], (3, 0)),
+    ("3 bytes", &[3, 0, 21], (3, 0)),
+    ("4 bytes", &[4, 0, 21, 0], (3, 0)),
+    ("4 bytes, length 0", &[0, 0, 0, 0], (3, 0)),
+    ("5 bytes, length 0", &[0, 0, 0, 0, 0], (3, 0)),
+];
+
 /// From S: 0#3 is active in 0/4; it is below 1#1, which is below 0#2.
 const WAY: [Row; 6] = [
     (7, 1, &[1]),
@@ -222,7 +236,14 @@ pub fn cases() -> Vec<Case> {
     let from_s = A_TO_L.into_iter().chain(PUBLIC_ROLES).chain(LESSER_ROLES);
     let from_s = from_s.map(|rows| case(&[], rows));
     let on_the_way = ON_THE_WAY.into_iter().map(|rows| case(&WAY, rows));
-    from_s.chain(on_the_way).collect()
+    let short = SHORT_RECORDS
+        .into_iter()
+        .map(|(name, record, expected)| Case {
+            name,
+            records: vec![record.to_vec()],
+            expected,
+        });
+    from_s.chain(on_the_way).chain(short).collect()
 }
 
 fn case(before: &[Row], (name, rows, expected): Rows) -> Case {

@@ -3,9 +3,10 @@
 use crate::engine::Answer;
 use crate::lawful::{Law, LAWS};
 use crate::reach_counts::ReachCounts;
-use crate::record::{decode, Call, KINDS};
+use crate::record::{decode_call, Call, KINDS};
 use crate::refusals::{linked_role, REFUSALS};
 use crate::sets::{own, Grant, Permission, SessionName, Sets};
+use crate::short_counts::ShortCounts;
 use std::collections::{BTreeMap, BTreeSet};
 
 /// What a call can clear.
@@ -70,6 +71,7 @@ pub struct Counts {
     accepted_across: [u64; KINDS + 1],
     /// Refusals 14.
     not_public: [u64; KINDS + 1],
+    /// By their numbers, and at 0 whatever was accepted.
     refusals: [u64; REFUSALS + 1],
     /// Verdicts 1 by the least number of attachments walked: 0, 1, 2, 3, 4 or more.
     verdicts: [u64; 5],
@@ -79,13 +81,15 @@ pub struct Counts {
     /// States that broke one clause of "Lawful means" and no other.
     broken_alone: BTreeMap<Law, u64>,
     pub reach: ReachCounts,
+    pub short: ShortCounts,
 }
 
 impl Counts {
     pub fn answered(&mut self, record: &[u8], answer: Answer) {
         self.calls += 1;
         self.refusals[usize::from(answer.refusal)] += 1;
-        if let Some(decoded) = decode(record) {
+        self.short.answered(record, answer);
+        if let Some(decoded) = decode_call(record) {
             let kind = decoded.kind;
             let across = linked_role(&decoded).is_some_and(|role| role.issuer != decoded.caller);
             let accepted = answer.refusal == 0;
@@ -98,7 +102,7 @@ impl Counts {
 
     /// An accepted call on the present state: what it cleared, and how far a verdict 1 went.
     pub fn changed(&mut self, record: &[u8], answer: Answer, before: Sizes, after: &Sets) {
-        let Some(decoded) = decode(record) else {
+        let Some(decoded) = decode_call(record) else {
             return;
         };
         let cleared = &mut self.cleared[decoded.kind];
@@ -170,17 +174,17 @@ impl Counts {
             missing.push("starting a used state".to_string());
         }
         missing.extend(self.reach.missing());
+        missing.extend(self.short.missing());
         missing
     }
 
     pub fn print(&self) {
-        let accepted: u64 = self.accepted.iter().sum();
         let verdicts: u64 = self.verdicts.iter().sum();
         println!("journals                  {}", self.journals);
         println!("calls                     {}", self.calls);
         println!("  on other states         {}", self.on_other_states);
         println!("starts of used states     {}", self.starts);
-        println!("accepted                  {accepted}");
+        println!("accepted                  {}", self.refusals[0]);
         print!("refusals                 ");
         for number in 1..=REFUSALS {
             print!(" {number}: {}", self.refusals[number]);
@@ -198,6 +202,7 @@ impl Counts {
             self.verdicts[3],
             self.verdicts[4]
         );
+        self.short.print();
         self.reach.print();
         println!("kind: accepted across estates, refused with 14");
         for kind in 13..=16 {

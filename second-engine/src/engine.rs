@@ -3,7 +3,7 @@
 use crate::cascades::carry_out;
 use crate::lawful::lawful;
 use crate::places::WORDS;
-use crate::record::{decode, Call};
+use crate::record::{decode, Call, Record};
 use crate::refusals::refusal;
 use crate::sets::{own, write_started, Sets};
 
@@ -62,9 +62,13 @@ pub fn call(words: &mut [u16], record: &[u8]) -> Answer {
 
 /// Plays one record on lawful sets.
 fn play(sets: &mut Sets, record: &[u8]) -> Answer {
-    // 3: "record under 5 bytes, length field wrong, kind unknown, or length wrong for the kind"
-    let Some(decoded) = decode(record) else {
-        return refused(3);
+    let decoded = match decode(record) {
+        // "It is now accepted with verdict 0 and changes no word."
+        Record::SignOfLife => return ACCEPTED,
+        // 3: "record under 5 bytes", now "1 to 4 bytes", "length field wrong, kind unknown, or
+        // length wrong for the kind"
+        Record::Undecodable => return refused(3),
+        Record::Call(decoded) => decoded,
     };
     let number = refusal(sets, &decoded);
     if number != 0 {

@@ -3,7 +3,7 @@
 
 use crate::engine::Desk;
 use crate::random::Random;
-use crate::record::{decode, Call, OPERATOR};
+use crate::record::{decode, decode_call, Call, Record, OPERATOR};
 use crate::records::{any_record, operators, undecodable};
 use crate::refusals::refusal;
 use crate::sets::Sets;
@@ -38,16 +38,16 @@ impl Pair {
 /// outsider's"; "a record not already counted as an outsider's is its caller's".
 pub fn outsiders(members: &BTreeSet<usize>, record: &[u8]) -> bool {
     match decode(record) {
-        None => true,
-        Some(decoded) if decoded.caller > OPERATOR => true,
-        Some(decoded) if decoded.caller == OPERATOR => false,
-        Some(decoded) => !members.contains(&decoded.caller),
+        Record::SignOfLife | Record::Undecodable => true,
+        Record::Call(decoded) if decoded.caller > OPERATOR => true,
+        Record::Call(decoded) if decoded.caller == OPERATOR => false,
+        Record::Call(decoded) => !members.contains(&decoded.caller),
     }
 }
 
 /// "a kind 3 from an outsider that names a member"
 pub fn trusts_a_member(members: &BTreeSet<usize>, record: &[u8]) -> bool {
-    let Some(decoded) = decode(record) else {
+    let Some(decoded) = decode_call(record) else {
         return false;
     };
     match decoded.call {
@@ -129,7 +129,7 @@ fn outsiders_record(
 }
 
 fn accepted(sets: &Sets, record: &[u8]) -> bool {
-    decode(record).is_some_and(|decoded| refusal(sets, &decoded) == 0)
+    decode_call(record).is_some_and(|decoded| refusal(sets, &decoded) == 0)
 }
 
 /// A record of a member or of the operator.

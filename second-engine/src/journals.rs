@@ -118,10 +118,11 @@ fn any_step(random: &mut Random, world: &World, both: &SideBySide) -> Step {
         0 => Step::StartOn(any_damage(random, world, present)),
         1..=12 => {
             let damage = any_damage(random, world, present);
-            let record = if random.percent(50) {
-                any_record(random, world, &aim(&damage, both.desk()))
-            } else {
-                any_record(random, world, both.desk().sets())
+            let record = match random.below(20) {
+                // a sign of life: "States of wrong length or law still give 1 or 2."
+                0 | 1 => Vec::new(),
+                2..=10 => any_record(random, world, &aim(&damage, both.desk())),
+                _ => any_record(random, world, both.desk().sets()),
             };
             Step::CallOn(damage, record)
         }
@@ -163,6 +164,7 @@ fn play(both: &mut SideBySide, step: &Step, counts: &mut Counts) -> Option<Answe
                 broken = broken_laws(&Sets::read(&words));
             } else if answer.refusal != 1 {
                 counts.reach.on_lawful_state(&Sets::read(&words));
+                counts.short.on_lawful_state(record, answer);
             }
             counts.on_other_state(answer, &broken);
         }

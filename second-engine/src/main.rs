@@ -32,6 +32,9 @@ mod records;
 mod refusals;
 mod report;
 mod sets;
+mod short_counts;
+#[cfg(test)]
+mod short_tests;
 mod shrink;
 mod side_by_side;
 #[cfg(test)]

@@ -3,7 +3,7 @@
 use crate::histories::{outsiders, trusts_a_member, In, Pair};
 use crate::pairs::Played;
 use crate::reach_counts::{dropped, lesser_activated, Sessions};
-use crate::record::decode;
+use crate::record::decode_call;
 use crate::sets::Sets;
 use crate::ways::only_through_others;
 use std::collections::BTreeSet;
@@ -25,7 +25,7 @@ impl Answered {
     fn count(&mut self, record: &[u8], answer: u64) {
         let (refusal, verdict) = (answer % 65536, answer / 65536);
         let accepted = refusal == 0;
-        let kind = decode(record).map(|decoded| decoded.kind);
+        let kind = decode_call(record).map(|decoded| decoded.kind);
         self.accepted += u64::from(accepted);
         self.refused += u64::from(!accepted);
         self.not_public += u64::from(refusal == 14);
@@ -47,6 +47,8 @@ pub struct PairCounts {
     refused_trust: u64,
     remaining: Answered,
     outsiders: Answered,
+    /// Signs of life that stand in one of the two histories only.
+    signs_of_life: u64,
     empty_sets: u64,
     full_sets: u64,
     /// Links are grants and attachments between different issuers, at the end.
@@ -69,6 +71,9 @@ impl PairCounts {
         self.empty_sets += u64::from(pair.members.is_empty());
         self.full_sets += u64::from(pair.members.len() == 16);
         self.different_ends += u64::from(first.words != second.words);
+        for (place, record) in &pair.entries {
+            self.signs_of_life += u64::from(*place != In::Both && record.is_empty());
+        }
         for (which, played) in [(In::First, first), (In::Second, second)] {
             for (record, &answer) in pair.history(which).iter().zip(&played.answers) {
                 if outsiders(&pair.members, record) {
@@ -133,7 +138,7 @@ impl PairCounts {
         }
     }
 
-    fn lines(&self) -> [(&'static str, u64); 27] {
+    fn lines(&self) -> [(&'static str, u64); 28] {
         let PairCounts {
             remaining,
             outsiders,
@@ -157,6 +162,7 @@ impl PairCounts {
             ("outsiders' refused", outsiders.refused),
             ("outsiders' refusals 14", outsiders.not_public),
             ("  trusting a member", self.refused_trust),
+            ("signs of life in one only", self.signs_of_life),
             ("links among members", self.member_links),
             ("links member-outsider", self.links_to_outsiders),
             ("links among outsiders", self.outsider_links),

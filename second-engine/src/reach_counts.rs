@@ -1,7 +1,7 @@
 //! How often lesser roles were active, those that a session's user doesn't hold, and how often
 //! the reach of an active role broke.
 
-use crate::record::{decode, Call, KINDS};
+use crate::record::{decode_call, Call, KINDS};
 use crate::sets::{own, Session, SessionName, Sets, User};
 use crate::ways::{lesser_roles, only_through_others};
 use std::collections::BTreeMap;
@@ -14,7 +14,7 @@ const CUTS_ELSEWHERE: [usize; 5] = [2, 4, 8, 16, 23];
 
 /// The lesser role that an accepted record has activated, if it has.
 pub fn lesser_activated(record: &[u8], after: &Sets) -> Option<(SessionName, usize)> {
-    let decoded = decode(record)?;
+    let decoded = decode_call(record)?;
     let Call::Activate { session, role } = decoded.call else {
         return None;
     };
@@ -66,7 +66,7 @@ pub struct ReachCounts {
 impl ReachCounts {
     /// An accepted call on the present state.
     pub fn changed(&mut self, record: &[u8], before: &Sessions, after: &Sets) {
-        let Some(decoded) = decode(record) else {
+        let Some(decoded) = decode_call(record) else {
             return;
         };
         if let Some((name, role)) = lesser_activated(record, after) {

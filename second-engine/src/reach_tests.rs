@@ -6,7 +6,7 @@ use crate::lawful::{broken_laws, Law};
 use crate::lawful_states::lawful_sets;
 use crate::places::WORDS;
 use crate::random::Random;
-use crate::record::{decode, encode, Call, OPERATOR};
+use crate::record::{decode_call, encode, Call, OPERATOR};
 use crate::records::any_record;
 use crate::sets::{own, Attachment, Held, Own, Role, Session, Sets, Trust, User};
 use crate::tests::in_s;
@@ -257,8 +257,8 @@ fn random_calls_leave_active_what_is_reached() {
             }
             let before = desk.sets().clone();
             let record = any_record(&mut random, &world, &before);
-            if desk.call(&record).refusal == 0 {
-                let call = decode(&record).expect("it was accepted").call;
+            if desk.call(&record).refusal == 0 && !record.is_empty() {
+                let call = decode_call(&record).expect("it was accepted").call;
                 only_reached_are_left(&before, desk.sets(), call);
             }
         }

@@ -44,9 +44,29 @@ pub struct Decoded {
     pub call: Call,
 }
 
-/// `None` where refusal 3's row applies.
-pub fn decode(record: &[u8]) -> Option<Decoded> {
-    // "record under 5 bytes"
+/// What a record is.
+#[derive(Clone, Debug, PartialEq, Eq)]
+pub enum Record {
+    /// "A press with nothing to report hands in a record of zero bytes."
+    SignOfLife,
+    Call(Decoded),
+    /// Refusal 3's row applies.
+    Undecodable,
+}
+
+pub fn decode(record: &[u8]) -> Record {
+    if record.is_empty() {
+        return Record::SignOfLife;
+    }
+    match decode_call(record) {
+        Some(decoded) => Record::Call(decoded),
+        None => Record::Undecodable,
+    }
+}
+
+/// `None` where refusal 3's row applies, and for the sign of life, which is no call.
+pub fn decode_call(record: &[u8]) -> Option<Decoded> {
+    // "under 5 bytes becomes 1 to 4 bytes"
     if record.len() < 5 {
         return None;
     }

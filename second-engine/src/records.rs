@@ -1,4 +1,4 @@
-//! Random records: aimed at what the state allows, blind, odd, or not decodable.
+//! Random records: aimed at what the state allows, blind, odd, not decodable, or signs of life.
 
 use crate::aims::aimed;
 use crate::random::Random;
@@ -18,9 +18,11 @@ pub fn any_record(random: &mut Random, world: &World, sets: &Sets) -> Vec<u8> {
             }
             blind(random, world)
         }
-        70..=90 => blind(random, world),
-        91..=95 => odd(random, world),
-        _ => undecodable(random, world),
+        70..=89 => blind(random, world),
+        90..=94 => odd(random, world),
+        95..=98 => undecodable(random, world),
+        // a sign of life
+        _ => Vec::new(),
     }
 }
 
@@ -77,13 +79,10 @@ pub fn undecodable(random: &mut Random, world: &World) -> Vec<u8> {
     let mut record = blind(random, world);
     let length = record.len();
     match random.below(14) {
-        // empty
-        0 => record.clear(),
-        // under 5 bytes, the length field right or wrong
-        1 => record.truncate(random.between(1, 4)),
-        2 => {
-            record.truncate(random.between(2, 4));
-            record[0] = record.len() as u8;
+        // 1 to 4 bytes, the length field wrong, right, or nought
+        0..=2 => {
+            record.truncate(random.between(1, 4));
+            record[0] = random.pick(&[record[0], record.len() as u8, 0]);
         }
         // cut short, or bytes too many
         3 => record.truncate(length - 1),

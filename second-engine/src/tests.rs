@@ -8,7 +8,7 @@ use crate::lawful::{broken_laws, lawful, Law};
 use crate::lawful_states::lawful_sets;
 use crate::places::{public_word, WORDS};
 use crate::random::Random;
-use crate::record::{decode, encode, OPERATOR};
+use crate::record::{decode_call, encode, OPERATOR};
 use crate::records::{any_record, undecodable};
 use crate::sets::{own, Attachment, Grant, Held, Session, Sets, Trust};
 use crate::shrink::shrink;
@@ -106,7 +106,7 @@ fn the_journal_example() {
     let (records, lines) = example();
     let (_, answers) = played(&records);
     for (place, (record, answer)) in records.iter().zip(answers).enumerate() {
-        let decoded = decode(record).unwrap();
+        let decoded = decode_call(record).unwrap();
         let line = format!(
             "{} {} {} {} {}",
             place + 1,
@@ -242,7 +242,7 @@ fn kept_sets_and_words_agree() {
         let damage = any_damage(&mut random, &world, &words);
         let mut damaged = damage.apply(&words);
         let before = damaged.clone();
-        if call(&mut damaged, &[]).refusal != 0 {
+        if call(&mut damaged, &[0]).refusal != 0 {
             assert_eq!(damaged, before);
         }
     }
