@@ -7,7 +7,9 @@
 
    A state is YERMOITU_WORDS unsigned 16-bit words that the caller lends for each call. A call is a
    record of bytes: its length (2 bytes, the low byte first, counting the whole record), its kind (2
-   bytes, likewise), the caller (1 byte; 16 is the operator) and its arguments (1 byte each).
+   bytes, likewise), the caller (1 byte; 16 is the operator) and its arguments (1 byte each). A press
+   with nothing to report hands in a record of no bytes, its sign of life: accepted with verdict 0,
+   and no word is changed.
 
    An answer is one number: the refusal in bits 0 to 15, the verdict in bits 16 to 31, and 0 above.
    The refusal is 0 where the call was accepted, else the number of the first cause, 1 to 14; they
@@ -53,7 +55,8 @@ uint64_t yermoitu_start(uint16_t *state, size_t words);
 
 /* Plays a record on a state. Where the refusal is not 0, no word is changed.
    Among the refusals: 1 where `words` is not YERMOITU_WORDS, 2 where the words are no lawful state,
-   such as zeros that were never started, 3 where the bytes are no call record, no bytes included. */
+   such as zeros that were never started, 3 where there are bytes and they are no call record. To a
+   record of no bytes the answer is refusal 0, 1 or 2. */
 uint64_t yermoitu_call(uint16_t *state, size_t words, const uint8_t *record, size_t bytes);
 
 #ifdef __cplusplus

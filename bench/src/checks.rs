@@ -5,7 +5,9 @@ mod lesser;
 use crate::active;
 use crate::library;
 use crate::random::Random;
-use crate::records::{lively_journal, random_journal, random_record, Record, DEACTIVATE};
+use crate::records::{
+    lively_journal, random_journal, random_record, Record, DEACTIVATE, SIGN_OF_LIFE,
+};
 use crate::states::Case;
 use crate::words::{self, session, ATTACHMENTS, HELD, PUBLIC, SESSIONS, WORDS};
 
@@ -35,7 +37,7 @@ impl Checked {
         if answer == 0 {
             let new = active::gone(state, &before).into_iter();
             self.lesser += new.filter(|&role| !active::is_held(state, role)).count();
-            if u16::from(record[2]) != DEACTIVATE {
+            if record.get(2) != Some(&(DEACTIVATE as u8)) {
                 self.dropped += active::gone(&before, state).len();
             }
         }
@@ -50,6 +52,7 @@ impl Checked {
             assert_eq!(library::start(&mut state), words::start(&mut other));
             assert!(state == other, "words after starting on {length} words");
             self.plays(&mut state, &random_record(random, 16));
+            self.plays(&mut state, &SIGN_OF_LIFE[0]);
         }
     }
 
@@ -87,7 +90,10 @@ fn spoilt(case: &Case, random: &mut Random) -> Vec<(usize, u8)> {
 fn records(case: &Case) -> impl Iterator<Item = &Record> {
     let questions = case.allowed.iter().chain(&case.denied);
     let changes = case.grants.iter().chain(&case.publications);
-    questions.chain(changes).chain(&case.detachments)
+    questions
+        .chain(changes)
+        .chain(&case.detachments)
+        .chain(&SIGN_OF_LIFE)
 }
 
 /// Compares the engines on random histories and on every case. Panics where they differ.

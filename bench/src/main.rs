@@ -5,7 +5,7 @@ use std::time::Instant;
 use bench::checks;
 use bench::library;
 use bench::random::Random;
-use bench::records::{random_journal, Record, ACTIVATE, DETACH};
+use bench::records::{random_journal, Record, ACTIVATE, DETACH, SIGN_OF_LIFE};
 use bench::states::{self, Case};
 use bench::timing::{measure, median, ratio, Engine, Task};
 use bench::words::{self, WORDS};
@@ -43,11 +43,12 @@ fn main() {
         checked.lesser, checked.dropped
     );
 
-    let operations: [(&str, Records); 4] = [
+    let operations: [(&str, Records); 5] = [
         ("kind 21, verdict 1", |case| &case.allowed),
         ("kind 21, verdict 0", |case| &case.denied),
         ("grant and ungrant", |case| &case.grants),
         ("publish and unpublish", |case| &case.publications),
+        ("sign of life", |_| &SIGN_OF_LIFE),
     ];
     let mut tables: Vec<Vec<Task>> = operations
         .iter()

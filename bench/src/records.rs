@@ -30,6 +30,9 @@ pub const MAY_USE: u16 = 21;
 pub const PUBLISH: u16 = 22;
 pub const UNPUBLISH: u16 = 23;
 
+/// A press's sign of life.
+pub static SIGN_OF_LIFE: [Record; 1] = [Vec::new()];
+
 /// A record in its bytes.
 pub fn record(kind: u16, caller: u8, arguments: &[u8]) -> Record {
     let length = 5 + arguments.len() as u16;

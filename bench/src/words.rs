@@ -1,5 +1,5 @@
 //! A plain engine on the words of a state, with the same answers and effects as the library.
-//! It has the checks of document 01 and of Cards 1 and 2, and no proofs.
+//! It has the checks of document 01 and of Cards 1, 2 and 4, and no proofs.
 
 mod effects;
 mod law;
@@ -191,6 +191,9 @@ pub fn call(state: &mut [u16], record: &[u8]) -> u64 {
     };
     if !law::lawful(state) {
         return answer(2, 0);
+    }
+    if record.is_empty() {
+        return answer(0, 0);
     }
     let Some(call) = decode(record) else {
         return answer(3, 0);

@@ -44,5 +44,6 @@ int main(void)
     show("start", yermoitu_start(state, YERMOITU_WORDS));
     for (size_t i = 0; i < sizeof story / sizeof *story; i++)
         show(story[i].says, yermoitu_call(state, YERMOITU_WORDS, story[i].record, story[i].record[0]));
+    show("a press's sign of life", yermoitu_call(state, YERMOITU_WORDS, NULL, 0));
     return 0;
 }

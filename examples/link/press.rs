@@ -26,7 +26,7 @@ fn show(says: &str, answer: u64) {
 fn main() {
     let mut state = vec![0; 9041];
     show("start", start(&mut state));
-    let story: [(&str, &[u8]); 15] = [
+    let story: [(&str, &[u8]); 16] = [
         ("the operator enrols 0", &[6, 0, 1, 0, 16, 0]),
         ("the operator enrols 1", &[6, 0, 1, 0, 16, 1]),
         ("0 adds role 2", &[6, 0, 7, 0, 0, 2]),
@@ -42,6 +42,7 @@ fn main() {
         ("may 0's session 4 use 5?", &[8, 0, 21, 0, 1, 5, 0, 4]),
         ("0 withdraws its trust in 1", &[6, 0, 4, 0, 0, 1]),
         ("may 0's session 4 use 5?", &[8, 0, 21, 0, 1, 5, 0, 4]),
+        ("a press's sign of life", &[]),
     ];
     for (says, record) in story {
         show(says, call(&mut state, record));
