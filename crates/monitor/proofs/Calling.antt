@@ -15,9 +15,10 @@ use Rattle.mtas.specs.Rule.{rule}
 use Rattle.mtas.specs.Answer.{accepted, refused, outcome, Outcome, verdict-of, answer, next}
 use Rattle.mtas.specs.Layout.{state-length, view, encode}
 use Rattle.mtas.specs.LawTest.{LawfulWords, lawful-words}
+use Rattle.mtas.specs.Record.{sign-of-life, undecodable, decode}
 use Rattle.mtas.specs.Monitor.{answered, state-after, monitor}
 use Rattle.mtas.proofs.LawTest.{lawful-words-sound}
-use Rattle.mtas.proofs.Monitor.{monitor-lawful, accepted-zero}
+use Rattle.mtas.proofs.Monitor.{monitor-lawful, monitor-idle, accepted-zero}
 use Rattle.mtas.proofs.Words.{encode-view}
 use Rattle.mtas.proofs.Step.{refused-answer, refused-equal}
 use Rattle.record.specs.Decoded.{call-of, request-of, refusal-of, Decodes}
@@ -61,23 +62,20 @@ neither SignOfLife h g = absurd (⊎-elim (λ e. omega arith) (λ e. omega arith
 
 -- d is the record decoded
 module _ {ws : List ℕ} (b : List ℕ) (W : LawfulWords ws) {d : Decoded} (e : Decodes b d) where
+  read-as : {x : Decoded} → d ≡ x → decode b ≡ request-of x
+  read-as h = sym (e .same-request) ∙ ap request-of h
+
   -- the table's answer to the record, and the words that it leaves
   given : {x : Decoded} → d ≡ x → monitor ws b ≡ record { answer = answered (view ws) (request-of x); words = encode (state-after (view ws) (request-of x)) }
   given h =
       monitor-lawful ws b W
-      ∙ ap (λ q. record { answer = answered (view ws) q; words = encode (state-after (view ws) q) }) (sym (e .same-request) ∙ ap request-of h)
+      ∙ ap (λ q. record { answer = answered (view ws) q; words = encode (state-after (view ws) q) }) (read-as h)
 
-  -- one that is no call leaves the words as they are
-  idle : (x : Decoded) {a : Answer} → d ≡ x → answered (view ws) (request-of x) ≡ record { refusal = refusal-of x; verdict = 0 } → state-after (view ws) (request-of x) ≡ view ws
-      → a ≡ two-numbers (refusal-of x) 0 → Gives (monitor ws b) (a .refusal) (a .verdict) ws
-  idle x h t u q =
-      gives q (rw (given h) (record { same-refusal = ap (λ a. a .refusal) (sym t); same-verdict = ap (λ a. a .verdict) (sym t); same-words = sym (ap encode u ∙ encode-view ws W) }))
+  pub signed : {a : Answer} → d ≡ SignOfLife → a ≡ two-numbers (refusal-of SignOfLife) 0 → Gives (monitor ws b) (a .refusal) (a .verdict) ws
+  signed h q = gives q (rw (monitor-idle ws b W sign-of-life (read-as h) refl) (record { same-refusal = refl; same-verdict = refl; same-words = refl }))
 
-  pub signed : {a : Answer} → d ≡ SignOfLife → a ≡ two-numbers 0 0 → Gives (monitor ws b) (a .refusal) (a .verdict) ws
-  signed h q = idle SignOfLife h refl refl q
-
-  pub undecoded : {a : Answer} → OneOf (0 ∷ 1 ∷ []) (tagOf the-type d) → OneOf (1 ∷ 2 ∷ []) (tagOf the-type d) → a ≡ two-numbers 3 0 → Gives (monitor ws b) (a .refusal) (a .verdict) ws
-  undecoded h g q = idle Undecodable (neither d h g) refl refl q
+  pub undecoded : {a : Answer} → OneOf (0 ∷ 1 ∷ []) (tagOf the-type d) → OneOf (1 ∷ 2 ∷ []) (tagOf the-type d) → a ≡ two-numbers (refusal-of Undecodable) 0 → Gives (monitor ws b) (a .refusal) (a .verdict) ws
+  undecoded h g q = gives q (rw (monitor-idle ws b W undecodable (read-as (neither d h g)) refl) (record { same-refusal = refl; same-verdict = refl; same-words = refl }))
 
   module _ {c r : ℕ} {k : Call} (h : d ≡ Requested c k) (t : Refusal ws c (call-of k) r) where
     pub refused-call : {x : Answer} → (r ≡ 0 → ⊥) → x ≡ two-numbers r 0 → Gives (monitor ws b) (x .refusal) (x .verdict) ws

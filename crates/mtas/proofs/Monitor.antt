@@ -56,6 +56,13 @@ monitor-encode st L b =
     monitor-lawful (encode st) b (encode-lawful st L)
     ∙ ap (λ x. record { answer = answered x (decode b); words = encode (state-after x (decode b)) }) (view-encode st L)
 
+-- a record that is no call leaves the words
+pub monitor-idle : (ws b : List ℕ) → LawfulWords ws → (x : Request) → decode b ≡ x → state-after (view ws) x ≡ view ws → monitor ws b ≡ record { answer = answered (view ws) x; words = ws }
+monitor-idle ws b W x d s =
+    monitor-lawful ws b W
+    ∙ ap (λ y. record { answer = answered (view ws) y; words = encode (state-after (view ws) y) }) d
+    ∙ ap (λ y. record { answer = answered (view ws) x; words = y }) (ap encode s ∙ encode-view ws W)
+
 -- a state not of its length: 1; 'state not lawful': 2; whatever the record
 pub wrong-length : (ws b : List ℕ) → (length ws ≡ state-length → ⊥) → monitor ws b ≡ turned-down 1 ws
 unfolding monitor

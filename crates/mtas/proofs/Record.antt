@@ -50,7 +50,7 @@ decode-is (x ∷ l) n = refl
 pub short : (b : List ℕ) → 0 < length b → length b < header → decode b ≡ undecodable
 short b n m = decode-is b n ∙ rw (lt-leb header (length b) m, decode-bytes)
 
--- and is no sign of life
+-- one byte or more is no sign of life
 no-sign : (b : List ℕ) → decode-bytes b ≡ sign-of-life → ⊥
 no-sign b e = go (leb header (length b) && eqb (two-bytes b 0) (length b)) refl
   where

@@ -3,31 +3,25 @@ use mathlib.Core.Path.{_≡_, refl, ap, _∙_}
 use mathlib.Core.Logic.{_⊎_, inl, inr}
 use mathlib.Core.List.{List, [], _∷_, _++_}
 use mathlib.Core.Bool.{Bool, true, false}
-use Prim.Native.Nat.{ℕ, suc, _<_}
-use lib.ListN.{length}
+use Prim.Native.Nat.{ℕ, suc}
 use Rattle.mtas.specs.Call.{Call}
 use Rattle.mtas.specs.Answer.{accepts}
-use Rattle.mtas.specs.Layout.{view, encode}
 use Rattle.mtas.specs.LawTest.{LawfulWords}
 use Rattle.mtas.specs.Record.{Request, sign-of-life, undecodable, request, decode, encode-call, remains}
-use Rattle.mtas.specs.Monitor.{turned-down, answered, state-after, monitor}
+use Rattle.mtas.specs.Monitor.{turned-down, monitor}
 use Rattle.mtas.specs.Histories.{History, final, answers}
 use Rattle.mtas.specs.SignOfLife.{SignOfLife}
 use Rattle.mtas.proofs.Record as records
-use Rattle.mtas.proofs.Words.{encode-view}
 use Rattle.mtas.proofs.Monitor as monitors
 use Rattle.mtas.proofs.Remaining.{remaining}
 
 module _ (ws : List ℕ) (W : LawfulWords ws) where
   accepted : monitor ws [] ≡ record { answer = accepts 0; words = ws }
   unfolding decode
-  accepted = monitors.monitor-lawful ws [] W ∙ ap (λ x. record { answer = accepts 0; words = x }) (encode-view ws W)
+  accepted = monitors.monitor-idle ws [] W sign-of-life refl refl
 
   undecoded : (b : List ℕ) → decode b ≡ undecodable → monitor ws b ≡ turned-down 3 ws
-  undecoded b d =
-      monitors.monitor-lawful ws b W
-      ∙ ap (λ x. record { answer = answered (view ws) x; words = encode (state-after (view ws) x) }) d
-      ∙ ap (turned-down 3) (encode-view ws W)
+  undecoded b d = monitors.monitor-idle ws b W undecodable d refl
 
   no-other : (b : List ℕ) → (b ≡ [] → ⊥) → ((c : ℕ) (k : Call) → b ≡ encode-call c k → ⊥) → monitor ws b ≡ turned-down 3 ws
   no-other b n m = undecoded b (go (decode b) refl)
