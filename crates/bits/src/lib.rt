@@ -1,4 +1,4 @@
-// Bits of 16-bit words, sets of roles, and words of a lent slice masked or gathered.
+// Bits of 16-bit words, bytes, sets of roles, and words of a lent slice masked or gathered.
 // The definitions that the contracts cite are in specs/; their laws, and the proofs, in proofs/.
 ghost use mathlib.Core.Path.{_≡_};
 ghost use mathlib.Core.Bool.{false};
@@ -45,6 +45,13 @@ pub fn two_bytes(low: u8, high: u8) -> u16
     ensures { λ r. ⌜ r ≡ low + 256 * high ⌝ }
 {
     low as u16 + 256 * (high as u16)
+}
+
+// The byte at a place, or 0 past the end.
+pub fn byte_at(bytes: &[u8], place: usize) -> u8
+    ensures { λ r. ⌜ r ≡ getD (now (bytes .entry)) place 0 ⌝ }
+{
+    if place < bytes.len() { bytes[place] } else { 0 }
 }
 
 // A set of roles: a word for each issuer, with bit r for role r.

@@ -1,7 +1,7 @@
 // The journal reader: a journal is records end to end, and each is handed back as a part of the journal's own bytes.
 ghost use mathlib.Core.Path.{_≡_};
 ghost use Prim.Native.Nat.{_+_, _-_, _≤_};
-ghost use lib.ListN.{length, take, drop, getD};
+ghost use lib.ListN.{length, take, drop};
 ghost use Rattle.mtas.specs.Record.{kind-of, caller-of};
 ghost use Rattle.mtas.specs.Journal.{first-of};
 ghost use Rattle.journal.specs.Found.{found-of, Inside};
@@ -58,19 +58,12 @@ pub fn part(journal: &[u8], at: usize, len: usize) -> &[u8]
 pub fn kind_of(record: &[u8]) -> u16
     ensures { λ r. ⌜ r ≡ kind-of (now («record» .entry)) ⌝ }
 {
-    bits::two_bytes(byte_at(record, 2), byte_at(record, 3))
+    bits::two_bytes(bits::byte_at(record, 2), bits::byte_at(record, 3))
 }
 
 // A record's caller, or 0 where the byte is missing.
 pub fn caller_of(record: &[u8]) -> u8
     ensures { λ r. ⌜ r ≡ caller-of (now («record» .entry)) ⌝ }
 {
-    byte_at(record, 4)
-}
-
-// The byte at a place, or 0 past the end.
-fn byte_at(bytes: &[u8], place: usize) -> u8
-    ensures { λ r. ⌜ r ≡ getD (now (bytes .entry)) place 0 ⌝ }
-{
-    if place < bytes.len() { bytes[place] } else { 0 }
+    bits::byte_at(record, 4)
 }

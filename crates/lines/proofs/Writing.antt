@@ -4,7 +4,7 @@ use mathlib.Core.List.{List, [], _∷_, _++_, append-nil, append-assoc}
 use Prim.Native.Nat.{ℕ, _+_, _/_, _%_, _<_, _≤_}
 use native.Mathlib.Numerals.{add-one}
 use native.Mathlib.Omega.{arith}
-use lib.ListN.{length, getD, take, set, length-append}
+use lib.ListN.{length, getD, take, set, length-take, length-append}
 use lib.Seq.{take-all, take-suc, take-suc-set}
 use Rattle.lines.specs.declared.Buffer.{Buffer}
 use Rattle.lines.specs.Decimal.{decimal}
@@ -33,6 +33,14 @@ put-all w i p h = rw (take-all i w h) at p
 
 pub from-empty : {a b : Buffer} {t : List ℕ} → a .len ≡ 0 → Extends a b t → b .len ≤ 64 → Exactly b t
 from-empty {a} {b} {t} e p h = record { same = p .text ∙ ap (λ n. take n (a .bytes) ++ t) e; len = omega arith; inside = h }
+
+-- a text's bytes are as many as it says, and lie in the buffer
+module _ {b : Buffer} {t : List ℕ} (e : Exactly b t) where
+  pub as-long : b .len ≡ length (written b)
+  as-long = e .len ∙ ap length (sym (e .same))
+
+  pub in-its-bytes : b .len ≤ length (b .bytes)
+  in-its-bytes = omega (arith, as-long, length-take (b .len) (b .bytes))
 
 -- a number of one digit
 pub put-small : {a b : Buffer} (n : ℕ) → n < 10 → Extends a b ((48 + n) ∷ []) → Extends a b (decimal n) × (b .len ≤ a .len + 10)

@@ -17,3 +17,7 @@ text-of long = 108 ∷ 111 ∷ 110 ∷ 103 ∷ 10 ∷ []
 unfoldable pub text-of-all : List Line → List ℕ
 text-of-all [] = []
 text-of-all (l ∷ ls) = text-of l ++ text-of-all ls
+
+-- a line of the sheet program: an error and the line that it tells
+abbrev pub error-text : ℕ → ℕ → List ℕ
+error-text error line = field error ++ decimal line ++ (10 ∷ [])

@@ -1,11 +1,11 @@
-// A printed line of the journal program, as bytes.
+// A printed line of the programs, as bytes.
 ghost use mathlib.Core.Path.{_≡_};
 ghost use mathlib.Core.List.{[], _∷_};
 ghost use Prim.Native.Nat.{_+_, _≤_, _<_};
 ghost use lib.ListN.{length};
 ghost use Rattle.mtas.specs.Journal as Journal;
 ghost use Rattle.lines.specs.Decimal.{decimal};
-ghost use Rattle.lines.specs.Text.{field, text-of};
+ghost use Rattle.lines.specs.Text.{field, text-of, error-text};
 ghost use Rattle.lines.specs.Written.{Extends, Exactly, Appended};
 
 // The first len bytes are what was written; every line fits.
@@ -101,6 +101,14 @@ pub fn long() -> Buffer
     ensures { λ r. ⌜ Exactly r (text-of Journal.long) ⌝ }
 {
     put_word(empty(), b"long\n")
+}
+
+// The line of an error of the sheet program.
+pub fn wrong(error: u16, line: u32) -> Buffer
+    ensures { λ r. ⌜ Exactly r (error-text error line) ⌝ }
+{
+    let a = put_field(empty(), error as u32);
+    put_byte(put_number(a, line), 10)
 }
 
 // Puts a line's text into out at a place, and answers the place behind it.

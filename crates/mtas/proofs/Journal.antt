@@ -63,7 +63,7 @@ behind h left e w rest =
     ap (λ n. read-from n 0 j) fuel ∙ read-back h w 0 (suc m) left ∙ ap (λ r. record { records = h ++ r .records; ending = r .ending }) (rest m)
     ∙ ap (λ l. record { records = l; ending = e }) (append-nil h)
 
-whole-journal : (h : History) → AllWhole h → read-journal (joined h) ≡ record { records = h; ending = complete }
+pub whole-journal : (h : History) → AllWhole h → read-journal (joined h) ≡ record { records = h; ending = complete }
 unfolding read-from first-of
 whole-journal h w = ap read-journal (sym (append-nil (joined h))) ∙ behind h [] complete w (λ n. refl)
 

@@ -1,12 +1,15 @@
-// The call record: its bytes decoded into a caller and one of twenty-three calls, and a call's arguments.
+// The call record: its bytes decoded into a caller and one of twenty-three calls, a call's arguments, and bytes encoded.
 ghost use mathlib.Core.Path.{_≡_};
-ghost use lib.ListN.{getD};
-ghost use Rattle.mtas.specs.Record.{kind-at, fill};
+ghost use mathlib.Core.List.{[], _∷_};
+ghost use Prim.Native.Nat.{_≤_};
+ghost use lib.ListN.{take};
+ghost use Rattle.mtas.specs.Record.{kind-at, fill, record-of};
 ghost use Rattle.record.specs.Decoded.{call-of, request-of, Decodes, Formed};
 ghost use Rattle.record.specs.Padding.{Padded};
+ghost use Rattle.record.specs.Encoded.{Holds};
 
 // The bytes before the arguments: length, kind and caller.
-const HEADER: usize = 5;
+pub const HEADER: usize = 5;
 
 // The calls, a case for each kind, with the arguments as they stand in the record.
 pub enum Call {
@@ -80,20 +83,13 @@ fn kind_at(kind: u16, x: u8, y: u8, z: u8) -> Kind
     }
 }
 
-// The byte at n, 0 past the end.
-fn byte(bytes: &[u8], n: usize) -> u8
-    ensures { λ r. ⌜ r ≡ getD (now (bytes .entry)) n 0 ⌝ }
-{
-    if n < bytes.len() { bytes[n] } else { 0 }
-}
-
 // The request of a kind with these bytes as its arguments; undecodable where it has more or fewer, or is unknown.
 fn fill(caller: u8, kind: u16, bytes: &[u8]) -> Decoded
     ensures { λ r. ⌜ request-of r ≡ fill caller (kind-at kind) (now (bytes .entry)) ⌝ }
 {
-    let x = byte(bytes, 0);
-    let y = byte(bytes, 1);
-    let z = byte(bytes, 2);
+    let x = bits::byte_at(bytes, 0);
+    let y = bits::byte_at(bytes, 1);
+    let z = bits::byte_at(bytes, 2);
     match kind_at(kind, x, y, z) {
         Kind::Unknown => Decoded::Undecodable,
         Kind::Known(count, call) => {
@@ -159,4 +155,29 @@ pub fn arguments(call: Call) -> Slots
         Call::PublishRole(x) => Slots { x, y: 0, z: 0 },
         Call::UnpublishRole(x) => Slots { x, y: 0, z: 0 },
     }
+}
+
+// An encoded record: its first len bytes.
+pub struct Encoded {
+    pub bytes: [u8; 8],
+    pub len: usize,
+}
+
+// The record of a kind and a caller, with the first count of three arguments.
+pub fn record_of(kind: u16, caller: u8, count: usize, slots: Slots) -> Encoded
+    requires { ⌜ count ≤ 3 ⌝ }
+    ensures { λ r. ⌜ Holds r (record-of kind caller (take count (slots .x ∷ slots .y ∷ slots .z ∷ []))) ⌝ }
+{
+    let len = HEADER + count;
+    let bytes = [
+        len as u8,
+        0,
+        (kind % 256) as u8,
+        (kind / 256) as u8,
+        caller,
+        slots.x,
+        slots.y,
+        slots.z,
+    ];
+    Encoded { bytes, len }
 }

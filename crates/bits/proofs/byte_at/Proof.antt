@@ -1,9 +1,9 @@
--- `journal::byte_at` meets its contract: past the end `getD` gives 0.
+-- `bits::byte_at` meets its contract: past the end `getD` gives 0.
 use mathlib.Core.Path.{sym}
 use borrow.Author.Needs.{needs}
 use lib.ListN.{List·getD-eq-default}
-use Rattle.journal.proofs.byte_at.Statement.{statement}
-use Rattle.journal.proofs.byte_at.Tie as tie
+use Rattle.bits.proofs.byte_at.Statement.{statement}
+use Rattle.bits.proofs.byte_at.Tie as tie
 
 pub byte-at-spec : {M : Type 1} → statement M
 byte-at-spec = tie.close (tie.spec (λ c. search needs) (λ c. search needs) (λ c. sym (List·getD-eq-default (c .before .args .bytes .now) 0 (c .if1 .left))))
