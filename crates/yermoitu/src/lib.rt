@@ -1,8 +1,10 @@
-// The monitor for programs in C and Rust to link. `include/yermoitu.h` declares both functions: a slice is there a pointer and
-// the number of its elements. An answer is one number, `packed-answer`.
+// The monitor and the sheet's converter for programs in C and Rust to link. `include/yermoitu.h` declares the functions: a slice is
+// there a pointer and the number of its elements. An answer is one number, `packed-answer` or `packed-sheet`.
 ghost use mathlib.Core.Path.{_≡_};
 ghost use Rattle.mtas.specs.Monitor.{start, monitor};
+ghost use Rattle.sheet.specs.Converted.{converted};
 ghost use Rattle.yermoitu.specs.Packed.{packed-answer, Returns};
+ghost use Rattle.yermoitu.specs.PackedSheet.{with-told, packed-sheet, Converts};
 use monitor::Answer;
 
 // Both numbers of an answer in one.
@@ -26,4 +28,29 @@ pub extern "C" fn yermoitu_call(state: &mut [u16], record: &[u8]) -> u64
     ensures { λ r. ⌜ Returns (monitor (now (state .entry)) (now («record» .entry))) r (now (state .exit)) ⌝ }
 {
     pack(monitor::call(state, record))
+}
+
+// An error, and what is told of it.
+fn with_told(error: u16, told: usize) -> u64
+    ensures { λ r. ⌜ r ≡ with-told error told ⌝ }
+{
+    error as u64 + 65536 * (told as u64 % 281474976710656)
+}
+
+// The line is told where the error is 15, else the bytes.
+fn pack_sheet(answer: sheet::Answer) -> u64
+    ensures { λ r. ⌜ r ≡ packed-sheet (answer .error) (answer .line) (answer .bytes) ⌝ }
+{
+    if answer.error == 15 {
+        return with_told(answer.error, answer.line);
+    }
+    with_told(answer.error, answer.bytes)
+}
+
+// A sheet of any bytes made into records for any caller, in a buffer of any length.
+#[no_mangle]
+pub extern "C" fn yermoitu_sheet(csv: &[u8], caller: u8, out: &mut [u8]) -> u64
+    ensures { λ r. ⌜ Converts (converted (now (csv .entry)) caller (now (out .entry))) r (now (out .exit)) ⌝ }
+{
+    pack_sheet(sheet::convert(csv, caller, out))
 }

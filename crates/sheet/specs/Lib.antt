@@ -1,0 +1,10 @@
+pub mod Rfc4180
+pub mod Form
+pub mod Reading
+pub mod Exact
+pub mod Grammar
+pub mod Converted
+pub mod Caller
+pub mod Laws
+pub mod Examples
+pub mod Found
