@@ -5,6 +5,7 @@ pub mod checks;
 pub mod library;
 pub mod random;
 pub mod records;
+pub mod sheets;
 pub mod states;
 pub mod timing;
 pub mod words;

@@ -6,6 +6,7 @@ use bench::checks;
 use bench::library;
 use bench::random::Random;
 use bench::records::{random_journal, Record, ACTIVATE, DETACH, SIGN_OF_LIFE};
+use bench::sheets::{self, SheetTask};
 use bench::states::{self, Case};
 use bench::timing::{measure, median, ratio, Engine, Task};
 use bench::words::{self, WORDS};
@@ -24,6 +25,9 @@ const LESSER: usize = 8;
 type Records = fn(&Case) -> &[Record];
 
 fn main() {
+    // Before the others: behind them the plain converter took up to twice its time in some runs.
+    let sheets = sheets::measured(ROUNDS);
+
     let mut cases = vec![states::empty(), states::harvest(), states::dense()];
     cases.extend(states::chains());
     cases.push(states::lesser());
@@ -67,6 +71,7 @@ fn main() {
     }
     print_detachments(lesser, &detachments);
     journal();
+    print_sheets(&sheets);
 }
 
 /// A line for each state: ratios first, then nanoseconds of a call.
@@ -141,4 +146,24 @@ fn journal() {
         rate(LIBRARY),
         rate(PLAIN)
     );
+}
+
+/// A line for each sheet: its size, the ratio of the times, and bytes of the sheet a second.
+fn print_sheets(tasks: &[SheetTask]) {
+    println!();
+    println!(
+        "{:<24}{:>14}{:>14}{:>14}{:>18}{:>18}",
+        "sheet", "bytes", "rows", "library/plain", "library bytes/s", "plain bytes/s"
+    );
+    for task in tasks {
+        println!(
+            "{:<24}{:>14}{:>14}{:>14.2}{:>18.0}{:>18.0}",
+            task.name,
+            task.csv.len(),
+            task.rows,
+            task.ratio(),
+            task.rate(LIBRARY),
+            task.rate(PLAIN)
+        );
+    }
 }

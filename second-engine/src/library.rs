@@ -1,5 +1,5 @@
 //! The library under test. Words and records are lent to it between guards, which it must
-//! leave as they were.
+//! leave as they were; sheets and output buffers too, in `lent_sheet`.
 
 use crate::patience::came_back;
 
@@ -7,15 +7,22 @@ use crate::patience::came_back;
 extern "C" {
     fn yermoitu_start(state: *mut u16, words: usize) -> u64;
     fn yermoitu_call(state: *mut u16, words: usize, record: *const u8, bytes: usize) -> u64;
+    pub fn yermoitu_sheet(
+        csv: *const u8,
+        csv_bytes: usize,
+        caller: u8,
+        out: *mut u8,
+        out_bytes: usize,
+    ) -> u64;
 }
 
-const GUARD: usize = 64;
+pub const GUARD: usize = 64;
 
 fn guard_word(place: usize) -> u16 {
     0xA5C3 ^ (place as u16)
 }
 
-fn guard_byte(place: usize) -> u8 {
+pub fn guard_byte(place: usize) -> u8 {
     0x5A ^ (place as u8)
 }
 

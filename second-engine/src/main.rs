@@ -1,12 +1,14 @@
-//! Random journals and pairs of histories on `libyermoitu.a`, against a plain second engine
-//! that was written from the paper alone.
+//! Random journals, pairs of histories and sheets on `libyermoitu.a`, against a plain second
+//! engine and a plain converter that were written from the paper alone.
 //!
-//! `cargo run --release` plays 300,000 calls and 300 pairs of histories; `cargo test` tries the
-//! engine itself on the paper's cases. `build.rs` says where the library is looked for.
+//! `cargo run --release` plays 300,000 calls and 300 pairs of histories and converts 150,000
+//! sheets; `cargo test` tries the engine itself on the paper's cases, and the converter on the
+//! standard's rules. `build.rs` says where the library is looked for.
 //!
 //! The engine: `places`, `sets`, `lawful`, `record`, `refusals`, `cascades`, `engine`. The
 //! journals: `worlds`, `ways`, `records`, `aims`, `lawful_states`, `damage`, `journals`. Demand
-//! 3: `histories`, `pairs`.
+//! 3: `histories`, `pairs`. The converter: `sheet`. The sheets: `sheet_rows`, `sheet_spots`,
+//! `sheet_damage`, `sheet_rough`, `sheet_cases`, `sheets`.
 
 mod aims;
 mod cascades;
@@ -18,6 +20,7 @@ mod histories;
 mod journals;
 mod lawful;
 mod lawful_states;
+mod lent_sheet;
 mod library;
 mod pair_counts;
 mod pairs;
@@ -32,6 +35,20 @@ mod records;
 mod refusals;
 mod report;
 mod sets;
+mod sheet;
+#[cfg(test)]
+mod sheet_case_tests;
+mod sheet_cases;
+mod sheet_counts;
+mod sheet_damage;
+mod sheet_rough;
+mod sheet_rows;
+mod sheet_spots;
+#[cfg(test)]
+mod sheet_tests;
+#[cfg(test)]
+mod sheet_wrong;
+mod sheets;
 mod short_counts;
 #[cfg(test)]
 mod short_tests;
@@ -44,15 +61,17 @@ mod worlds;
 
 use counts::Counts;
 use pair_counts::PairCounts;
+use sheet_counts::SheetCounts;
 use std::env;
 use std::process::ExitCode;
 
 const USAGE: &str =
-    "second-engine [--calls N] [--pairs N] [--seed N] [--patience SECONDS] [--trace]";
+    "second-engine [--calls N] [--pairs N] [--sheets N] [--seed N] [--patience SECONDS] [--trace]";
 
 struct Options {
     calls: u64,
     pairs: u64,
+    sheets: u64,
     seed: u64,
     /// The seconds in which some call must come back.
     patience: u64,
@@ -64,6 +83,7 @@ fn options() -> Option<Options> {
     let mut options = Options {
         calls: 300_000,
         pairs: 300,
+        sheets: 150_000,
         seed: 20_260_101,
         patience: 60,
         trace: false,
@@ -73,6 +93,7 @@ fn options() -> Option<Options> {
         match name.as_str() {
             "--calls" => options.calls = arguments.next()?.parse().ok()?,
             "--pairs" => options.pairs = arguments.next()?.parse().ok()?,
+            "--sheets" => options.sheets = arguments.next()?.parse().ok()?,
             "--seed" => options.seed = arguments.next()?.parse().ok()?,
             "--patience" => options.patience = arguments.next()?.parse().ok()?,
             "--trace" => options.trace = true,
@@ -90,6 +111,7 @@ fn main() -> ExitCode {
     let Options {
         calls,
         pairs,
+        sheets,
         seed,
         patience,
         trace,
@@ -108,6 +130,14 @@ fn main() -> ExitCode {
     if pairs > 0 {
         let mut counts = PairCounts::default();
         if !pairs::play_pairs(seed, pairs, trace, &mut counts) {
+            return ExitCode::FAILURE;
+        }
+        counts.print();
+        missing.extend(counts.missing());
+    }
+    if sheets > 0 {
+        let mut counts = SheetCounts::default();
+        if !sheets::play_sheets(seed, sheets, trace, &mut counts) {
             return ExitCode::FAILURE;
         }
         counts.print();

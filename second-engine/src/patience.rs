@@ -5,7 +5,7 @@ use std::sync::atomic::{AtomicU64, Ordering::Relaxed};
 use std::thread;
 use std::time::Duration;
 
-/// How many calls and starts came back, those played again for a shorter list among them.
+/// How many calls, starts and sheets came back, those played again for a shorter list among them.
 static CAME_BACK: AtomicU64 = AtomicU64::new(0);
 
 pub fn came_back() {
@@ -20,7 +20,9 @@ pub fn watch(seconds: u64) {
             thread::sleep(Duration::from_secs(seconds));
             let now = CAME_BACK.load(Relaxed);
             if now == before {
-                println!("NO END: {now} calls and starts came back, and the next one did not");
+                println!(
+                    "NO END: {now} calls, starts and sheets came back, and the next one did not"
+                );
                 process::exit(1);
             }
             before = now;
