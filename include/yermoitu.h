@@ -1,6 +1,6 @@
-/* Yermoitu, the press portal's reference monitor, for programs in C and C++.
+/* Yermoitu, the press portal's reference monitor and its converter of sheets, for programs in C and C++.
 
-   `rt staticlib yermoitu` proves the monitor and writes target/staticlib/libyermoitu.a, for x86-64
+   `rt staticlib yermoitu` proves them and writes target/staticlib/libyermoitu.a, for x86-64
    Linux. Link it behind your own files. It has no variables of its own, takes no memory from the
    heap, needs less than 2 KB of stack, and calls nothing but memcpy. (Where a loader looks memcpy up
    only in its first call, that call needs the loader's stack too, some 2.5 KB.)
@@ -22,17 +22,25 @@
    in any issuer's open sessions, 12 in the caller's own; 12 drops nothing that is still reached.
    Only kind 19 brings a dropped role back.
 
+   A sheet is an estate's list as CSV (RFC 4180): each row, ended by CR and LF, which the last one may
+   lack, is a word and the arguments of its call, decimals 0 to 15 without leading zeros: user,u
+   role,r perm,p trust,j give,u,r grant,p,i,r attach,q,i,r. A field may stand between double quotes.
+   There is no heading and no blank line.
+
    What the caller owes, since nothing can test it:
    - where `words` is YERMOITU_WORDS, `state` points to so many words, aligned as uint16_t is, each
      written before with any value; where it is another number, `state` is not used and may be null;
    - `record` points to `bytes` bytes, and may be null where `bytes` is 0; none of them lies in the
      state's words;
-   - nobody else reads or writes the state, or writes the record, until the function returns: calls
-     on one state come one after the other, calls on different states may run at the same time.
+   - `csv` points to `csv_bytes` bytes and `out` to `out_bytes`, each written before with any value;
+     each may be null where its number is 0; they don't overlap;
+   - nobody else reads or writes the state or `out`, or writes the record or `csv`, until the function
+     returns: calls on one state come one after the other, calls on different states may run at the
+     same time.
 
-   What it gets: each function returns, whatever the words, the bytes and the two numbers are. It
-   writes to the state's words and to nothing else that the caller has. It reads no byte outside the
-   words and the record. */
+   What it gets: each function returns, whatever the words, the bytes and the numbers are. It writes to
+   the state's words, or to `out`, and to nothing else that the caller has. It reads no byte outside the
+   words and the record, or outside `csv` and `out`. */
 #ifndef YERMOITU_H
 #define YERMOITU_H
 
@@ -44,6 +52,10 @@
 /* The two numbers of an answer. */
 #define YERMOITU_REFUSAL(answer) ((unsigned)((uint64_t)(answer) & 0xffff))
 #define YERMOITU_VERDICT(answer) ((unsigned)((uint64_t)(answer) >> 16 & 0xffff))
+
+/* What yermoitu_sheet returns: the error, and the bytes written, or the line where the error is 15. */
+#define YERMOITU_ERROR(made) ((unsigned)((uint64_t)(made) & 0xffff))
+#define YERMOITU_TOLD(made) ((uint64_t)(made) >> 16)
 
 #ifdef __cplusplus
 extern "C" {
@@ -58,6 +70,14 @@ uint64_t yermoitu_start(uint16_t *state, size_t words);
    such as zeros that were never started, 3 where there are bytes and they are no call record. To a
    record of no bytes the answer is refusal 0, 1 or 2. */
 uint64_t yermoitu_call(uint16_t *state, size_t words, const uint8_t *record, size_t bytes);
+
+/* Makes call records of a sheet, for one caller: end to end from the start of `out`.
+   The error is in bits 0 to 15; above them are the bytes written, or the line where the error is 15.
+   Error 0: every row became a record, and the rest of `out` is as it was. A sheet of no bytes gives
+   no records. 15: the caller is above 15, at line 0, or else the first row that isn't of the form
+   above, its line from 1. 16, tried after 15: the records don't fit in `out`. Where the error isn't 0,
+   no byte of `out` is changed. A record has no more bytes than its row. */
+uint64_t yermoitu_sheet(const uint8_t *csv, size_t csv_bytes, uint8_t caller, uint8_t *out, size_t out_bytes);
 
 #ifdef __cplusplus
 }

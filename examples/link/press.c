@@ -32,6 +32,9 @@ static const struct step story[] = {
     {"may 0's session 4 use 5?", {8, 0, 21, 0, 1, 5, 0, 4}},
 };
 
+/* Estate 0's sheet. */
+static const char csv[] = "user,6\r\n\"role\",7\r\ngive,6,7\r\n";
+
 static void show(const char *says, uint64_t answer)
 {
     printf("%-36s refusal %u verdict %u\n", says, YERMOITU_REFUSAL(answer), YERMOITU_VERDICT(answer));
@@ -45,5 +48,11 @@ int main(void)
     for (size_t i = 0; i < sizeof story / sizeof *story; i++)
         show(story[i].says, yermoitu_call(state, YERMOITU_WORDS, story[i].record, story[i].record[0]));
     show("a press's sign of life", yermoitu_call(state, YERMOITU_WORDS, NULL, 0));
+
+    uint8_t records[sizeof csv];
+    uint64_t made = yermoitu_sheet((const uint8_t *)csv, sizeof csv - 1, 0, records, sizeof records);
+    printf("%-36s error %u, %u bytes\n", "0's sheet", YERMOITU_ERROR(made), (unsigned)YERMOITU_TOLD(made));
+    for (size_t at = 0; YERMOITU_ERROR(made) == 0 && at < YERMOITU_TOLD(made); at += records[at])
+        show("a row of it", yermoitu_call(state, YERMOITU_WORDS, records + at, records[at]));
     return 0;
 }

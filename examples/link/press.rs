@@ -8,15 +8,20 @@
 extern "C" {
     fn yermoitu_start(state: *mut u16, words: usize) -> u64;
     fn yermoitu_call(state: *mut u16, words: usize, record: *const u8, bytes: usize) -> u64;
+    fn yermoitu_sheet(csv: *const u8, csv_bytes: usize, caller: u8, out: *mut u8, out_bytes: usize) -> u64;
 }
 
-// A slice is valid for its length and a `&mut` overlaps nothing: all that the two functions ask.
+// A slice is valid for its length and a `&mut` overlaps nothing: all that the functions ask.
 fn start(state: &mut [u16]) -> u64 {
     unsafe { yermoitu_start(state.as_mut_ptr(), state.len()) }
 }
 
 fn call(state: &mut [u16], record: &[u8]) -> u64 {
     unsafe { yermoitu_call(state.as_mut_ptr(), state.len(), record.as_ptr(), record.len()) }
+}
+
+fn sheet(csv: &[u8], caller: u8, out: &mut [u8]) -> u64 {
+    unsafe { yermoitu_sheet(csv.as_ptr(), csv.len(), caller, out.as_mut_ptr(), out.len()) }
 }
 
 fn show(says: &str, answer: u64) {
@@ -46,5 +51,17 @@ fn main() {
     ];
     for (says, record) in story {
         show(says, call(&mut state, record));
+    }
+
+    let csv = b"user,6\r\n\"role\",7\r\ngive,6,7\r\n";
+    let mut records = vec![0; csv.len()];
+    let made = sheet(csv, 0, &mut records);
+    println!("{:<36} error {}, {} bytes", "0's sheet", made & 0xffff, made >> 16);
+    records.truncate((made >> 16) as usize);
+    let mut left = &records[..];
+    while !left.is_empty() {
+        let (record, rest) = left.split_at(left[0].into());
+        show("a row of it", call(&mut state, record));
+        left = rest;
     }
 }

@@ -1,5 +1,5 @@
-/* How much stack the library needs: plays journals and a circle of attachments on a thread whose stack was painted before, and prints
-   what was painted over, less what a thread that calls nothing paints over.
+/* How much stack the library needs: plays journals and a circle of attachments and makes records of a sheet on a thread whose stack
+   was painted before, and prints what was painted over, less what a thread that calls nothing paints over.
    Usage: stack JOURNAL.. */
 #include "yermoitu.h"
 #include <pthread.h>
@@ -45,11 +45,20 @@ static void circle(void)
         abort();
 }
 
+static void sheet(void)
+{
+    static const char csv[] = "user,1\r\n\"grant\",\"2\",3,15\r\nattach,4,5,6";
+    uint8_t records[22];
+    if (yermoitu_sheet((const uint8_t *)csv, sizeof csv - 1, 7, records, sizeof records) != 22 << 16)
+        abort();
+}
+
 static void *plays(void *nothing)
 {
     for (int n = 0; n < count; n++)
         play(&journals[n]);
     circle();
+    sheet();
     return nothing;
 }
 
