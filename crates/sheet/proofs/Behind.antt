@@ -8,9 +8,10 @@ use lib.ListN.{length, getD, drop}
 use borrow.Author.Tests.{eqb-true, leb-true, le-leb}
 use Rattle.lines.specs.Decimal.{decimal}
 use Rattle.sheet.specs.Rfc4180.{COMMA, textdata, Field, Row}
-use Rattle.sheet.specs.Reading.{read, then, with-byte, field, number, numbered, argument, arguments}
+use Rattle.sheet.specs.Reading.{read, then, with-first, field, number, numbered, argument, arguments}
 use Rattle.sheet.proofs.Fields.{Gives, gives-then, Edge, a-byte, Splits, field-sound, field-complete}
 use Rattle.sheet.proofs.Numbers.{number-sound, number-complete}
+use Rattle.sheet.proofs.RowLaws.{row-laws}
 
 -- ---- *(COMMA field) whose texts are decimals
 pub data Follow : List ℕ → List ℕ → Type 0 where
@@ -27,20 +28,14 @@ pub row-of : {b t c ns : List ℕ} → Field b t → Follow c ns → Row (b ++ c
 row-of {b = b} {t = t} f Follow.no-more = subst (λ y. Row y (t ∷ [])) (sym (append-nil b)) (Row.last-field f)
 row-of f (Follow.one-more g h w) = Row.one-more f (row-of g w)
 
-last-of : {b t : List ℕ} → Row b (t ∷ []) → Field b t
-last-of (Row.last-field f) = f
-
-first-of : {b t u : List ℕ} {ts : List (List ℕ)} → Row b (t ∷ u ∷ ts) → (d : List ℕ) × (c : List ℕ) × (b ≡ d ++ (COMMA ∷ c)) × Field d t × Row c (u ∷ ts)
-first-of (Row.one-more {b = d} {c = c} f w) = (d, c, refl, f, w)
-
 abbrev pub Small : List ℕ → Type 0
 Small [] = Unit
 Small (n ∷ ns) = (n ≤ 15) × Small ns
 
 pub row-is : {b t : List ℕ} (ns : List ℕ) → Small ns → Row b (t ∷ map decimal ns) → (d : List ℕ) × (c : List ℕ) × (b ≡ d ++ c) × Field d t × Follow c ns
-row-is {b = b} [] s w = (b, [], sym (append-nil b), last-of w, Follow.no-more)
+row-is {b = b} [] s w = (b, [], sym (append-nil b), row-laws .one _ _ .0 w, Follow.no-more)
 row-is (n ∷ ns) (h, s) w =
-    let (d, c, q, f, v) = first-of w in
+    let (d, c, q, f, v) = row-laws .more _ _ _ _ .0 w in
     let (e, g, p, k, z) = row-is ns s v in
     (d, COMMA ∷ (e ++ g), q ∙ ap (λ y. d ++ (COMMA ∷ y)) p, f, Follow.one-more k h z)
 
@@ -80,12 +75,12 @@ pub arguments-sound : (n : ℕ) (l : List ℕ) → Gives (Counted n l) (argument
 unfolding arguments
 arguments-sound zero l = ([], refl, Follow.no-more, refl)
 arguments-sound (suc n) l =
-    gives-then (Argued l) (Counted (suc n) l) (argument l) (λ x r. then (arguments n r) (with-byte x)) (argument-sound l)
-    (λ x r (b, s, f, h). gives-then (Counted n r) (Counted (suc n) l) (arguments n r) (with-byte x) (arguments-sound n r)
+    gives-then (Argued l) (Counted (suc n) l) (argument l) (λ x r. then (arguments n r) (with-first x)) (argument-sound l)
+    (λ x r (b, s, f, h). gives-then (Counted n r) (Counted (suc n) l) (arguments n r) (with-first x) (arguments-sound n r)
     (λ ns m (c, k, w, e). (COMMA ∷ (b ++ c), s ∙ ap (λ y. COMMA ∷ (b ++ y)) k ∙ ap (λ y. COMMA ∷ y) (sym (append-assoc b c m)), Follow.one-more f h w, ap suc e)))
 
 pub arguments-complete : {c ns r : List ℕ} → Follow c ns → Edge r → arguments (length ns) (c ++ r) ≡ read ns r
 unfolding arguments
 arguments-complete Follow.no-more g = refl
 arguments-complete {r = r} (Follow.one-more {b = b} {c = c} {ns = ns} {n = n} f h w) g =
-    rw (append-assoc b c r, argument-complete n h f (follow-edge w g)) (ap (λ y. then y (with-byte n)) (arguments-complete w g))
+    rw (append-assoc b c r, argument-complete n h f (follow-edge w g)) (ap (λ y. then y (with-first n)) (arguments-complete w g))

@@ -1,21 +1,23 @@
 -- Texts of digits alone, and which are numbers in decimal.
-use mathlib.Core.Path.{_≡_, refl, sym, ap, _∙_}
+use mathlib.Core.Path.{_≡_, refl, sym, ap, ap₂, _∙_}
 use mathlib.Core.Logic.{⊎-elim}
-use mathlib.Core.Bool.{Bool, true, false, _&&_, not, and-false}
-use mathlib.Core.List.{List, [], _∷_}
-use Prim.Native.Nat.{ℕ, suc, _+_, _≤_, _<_}
+use mathlib.Core.Bool.{Bool, true, false, false≢true, _&&_, not, and-false}
+use mathlib.Core.List.{List, [], _∷_, _++_, append-assoc, append-nil}
+use Prim.Native.Nat.{ℕ, suc, _+_, _-_, _*_, _/_, _%_, _≤_, _<_}
 use native.Mathlib.Numerals.{add-one}
 use native.Mathlib.Omega.{arith}
-use borrow.Author.Tests.{eq-eqb, ne-eqb, le-leb, lt-leb, not-true, not-false}
-use lib.Dec.{leb}
+use borrow.Author.Tests.{eq-eqb, ne-eqb, eqb-false, leb-true, le-leb, lt-leb, not-true, not-false}
+use lib.Dec.{eqb, leb}
 use lib.ListN.{length, getD, drop, drop-of-length-le}
 use lib.Seq.{drop-cons}
-use Rattle.bits.proofs.Booleans.{below-or-not}
-use Rattle.lines.specs.Decimal.{decimal, value, Spells}
-use Rattle.lines.proofs.Decimal.{spells-decimal}
+use Rattle.bits.proofs.Booleans.{below-or-not, and-both}
+use Rattle.lines.specs.Decimal.{decimal, value, value-from, Spells}
+use Rattle.lines.proofs.Decimal.{decimal-step, spells-decimal}
 use Rattle.sheet.specs.Reading.{number}
-use Rattle.sheet.specs.Caller.{all-digits, is-decimal, a-caller, no-caller, caller-in, CallerLaws}
-use Rattle.sheet.proofs.Numbers.{number-sound, number-complete, small-or-16}
+use Rattle.sheet.specs.Caller.{all-digits, is-decimal, a-caller, no-caller, caller-in, named-of, CallerLaws}
+use Rattle.sheet.specs.declared.Caller.{Caller}
+use Rattle.sheet.specs.declared.Caller.the-variants.{Number, Other}
+use Rattle.sheet.proofs.Numbers.{single-digit, number-sound, number-complete, small-or-16}
 
 -- ---- digits from a place on
 module _ (t : List ℕ) (i : ℕ) (s : all-digits t ≡ all-digits (drop i t)) where
@@ -83,12 +85,60 @@ spelled n t s =
     (λ h. several t (λ z. omega arith) (λ z. omega arith) (λ z. let o : length t ≡ 1 = s .leading z .1 in omega arith) d)
     (below-or-not (length t) 2)
 
+-- ---- the number that digits spell
+a-digit : (x : ℕ) (t : List ℕ) → all-digits (x ∷ t) ≡ true → (48 ≤ x) × (x ≤ 57) × (all-digits t ≡ true)
+unfolding all-digits
+a-digit x t d =
+    let (e, r) = and-both (leb 48 x && leb x 57) (all-digits t) d in
+    let (l, m) = and-both (leb 48 x) (leb x 57) e in
+    (leb-true 48 x l, leb-true x 57 m, r)
+
+one-more : (a x : ℕ) → 1 ≤ a → 48 ≤ x → x ≤ 57 → decimal a ++ (x ∷ []) ≡ decimal (10 * a + (x - 48))
+one-more a x p l m =
+    let tens : (10 * a + (x - 48)) / 10 ≡ a = omega arith in
+    let unit : 48 + (10 * a + (x - 48)) % 10 ≡ x = omega arith in
+    sym (decimal-step (10 * a + (x - 48)) (omega arith) ∙ ap₂ (λ n y. decimal n ++ (y ∷ [])) tens unit)
+
+-- digits behind a number that isn't 0
+behind : (a : ℕ) (t : List ℕ) → 1 ≤ a → all-digits t ≡ true → decimal a ++ t ≡ decimal (value-from a t)
+unfolding value-from
+behind a [] p d = append-nil (decimal a)
+behind a (x ∷ t) p d =
+    let (l, m, r) = a-digit x t d in
+    sym (append-assoc (decimal a) (x ∷ []) t) ∙ ap (λ b. b ++ t) (one-more a x p l m) ∙ behind (10 * a + (x - 48)) t (omega arith) r
+
+number-of : (t : List ℕ) → is-decimal t ≡ true → (n : ℕ) × (t ≡ decimal n)
+unfolding is-decimal
+number-of [] e = absurd (false≢true e)
+number-of (x ∷ []) e = let (l, m, r) = a-digit x [] e in (x - 48, single-digit x l m)
+number-of (x ∷ y ∷ t) e =
+    let (z, d) = and-both (not (eqb x 48)) (all-digits (x ∷ y ∷ t)) e in
+    let (l, m, r) = a-digit x (y ∷ t) d in
+    let n : x ≡ 48 → ⊥ = eqb-false x 48 (not-true (eqb x 48) z) in
+    let p : 1 ≤ x - 48 = omega arith in
+    (value-from (x - 48) (y ∷ t), ap (λ b. b ++ (y ∷ t)) (single-digit x l m) ∙ behind (x - 48) (y ∷ t) p r)
+
 pub caller-laws : CallerLaws
 caller-laws = record {
   own = λ n h. rw (sym (spelled n (decimal n) (spells-decimal n)), caller-in) (ap a-caller (number-complete n h));
   above = λ n h. rw (sym (spelled n (decimal n) (spells-decimal n)), caller-in) (ap a-caller (great n h));
+  no-number = λ t h. other t h (is-decimal t) refl;
+  number-told = number-told;
+  other-told = other-told;
 }
   where
+    other : (t : List ℕ) → ((n : ℕ) → t ≡ decimal n → ⊥) → (b : Bool) → is-decimal t ≡ b → caller-in t ≡ no-caller
+    other t h true e = let (n, q) = number-of t e in absurd (h n q)
+    other t h false e = rw (e, caller-in)
+
+    number-told : (r : Caller) (n : ℕ) → named-of r ≡ a-caller n → r ≡ Number n
+    number-told (Number m) n e = cc
+    number-told Other n e = let z : _≡_ {A = ℕ} 0 1 = cc in absurd (omega arith)
+
+    other-told : (r : Caller) → named-of r ≡ no-caller → r ≡ Other
+    other-told (Number m) e = let z : _≡_ {A = ℕ} 0 1 = cc in absurd (omega arith)
+    other-told Other e = refl
+
     great : (n : ℕ) → 15 < n → number (decimal n) ≡ 16
     great n h =
         ⊎-elim (λ g. let e : n ≡ number (decimal n) = sym (spells-decimal n .worth) ∙ ap value (number-sound (decimal n) g) ∙ spells-decimal (number (decimal n)) .worth in absurd (omega arith))

@@ -8,7 +8,7 @@ use lib.ListN.{length, getD, drop}
 use lib.Seq.{drop-append-seam}
 use borrow.Author.Tests.{eqb-true, ne-eqb}
 use Rattle.sheet.specs.Rfc4180.{DQUOTE, textdata, quotable, Text, Escaped, Field}
-use Rattle.sheet.specs.Reading.{Read, none, read, then, textual, with-byte, quoted, field}
+use Rattle.sheet.specs.Reading.{Read, none, read, then, textual, with-first, quoted, field}
 
 -- what is read, if anything, is so
 abbrev pub Gives : {A : Type 0} → (A → List ℕ → Type 0) → Read A → Type 0
@@ -81,22 +81,22 @@ quoted-sound false (x ∷ l) = go (eqb x DQUOTE) refl (quotable x) refl (quoted-
     go : (y : Bool) → eqb x DQUOTE ≡ y → (z : Bool) → quotable x ≡ z → Gives (Closes true l) (quoted true l) → Gives (Closes false l) (quoted false l) → Gives (Closes false (x ∷ l)) (quoted false (x ∷ l))
     go true q z w second first = rw (q, quoted) (gives-more (Closes true l) (Closes false (x ∷ l)) (quoted true l) second (λ t r (b, s, d). (b, ap (λ y. y ∷ l) (eqb-true x DQUOTE q) ∙ s, d)))
     go false q true w second first =
-        rw (q, w, quoted) (gives-then (Closes false l) (Closes false (x ∷ l)) (quoted false l) (with-byte x) first (λ t r (b, s, d). (x ∷ b, ap (λ y. x ∷ y) s, Escaped.one-more w d)))
+        rw (q, w, quoted) (gives-then (Closes false l) (Closes false (x ∷ l)) (quoted false l) (with-first x) first (λ t r (b, s, d). (x ∷ b, ap (λ y. x ∷ y) s, Escaped.one-more w d)))
     go false q false w second first = rw (q, w, quoted) tt
 quoted-sound true [] = ([], refl, Escaped.no-more)
 quoted-sound true (x ∷ l) = go (eqb x DQUOTE) refl (quoted-sound false l)
   where
     go : (y : Bool) → eqb x DQUOTE ≡ y → Gives (Closes false l) (quoted false l) → Gives (Closes true (x ∷ l)) (quoted true (x ∷ l))
     go true q first =
-        rw (q, quoted) (gives-then (Closes false l) (Closes true (x ∷ l)) (quoted false l) (with-byte DQUOTE) first (λ t r (b, s, d). (DQUOTE ∷ DQUOTE ∷ b, ap₂ (λ y z. DQUOTE ∷ y ∷ z) (eqb-true x DQUOTE q) s, Escaped.two-quotes d)))
+        rw (q, quoted) (gives-then (Closes false l) (Closes true (x ∷ l)) (quoted false l) (with-first DQUOTE) first (λ t r (b, s, d). (DQUOTE ∷ DQUOTE ∷ b, ap₂ (λ y z. DQUOTE ∷ y ∷ z) (eqb-true x DQUOTE q) s, Escaped.two-quotes d)))
     go false q first = rw (q, quoted) ([], refl, Escaped.no-more)
 
 quoted-complete : {b t r : List ℕ} → Escaped b t → Edge r → quoted false (b ++ (DQUOTE ∷ r)) ≡ read t r
 unfolding quoted
 quoted-complete Escaped.no-more nothing = refl
 quoted-complete Escaped.no-more (a-byte e q) = rw (q, quoted)
-quoted-complete (Escaped.one-more {x = x} w d) g = rw (quotable-no-quote x w, w, quoted) (ap (λ y. then y (with-byte x)) (quoted-complete d g))
-quoted-complete (Escaped.two-quotes d) g = ap (λ y. then y (with-byte DQUOTE)) (quoted-complete d g)
+quoted-complete (Escaped.one-more {x = x} w d) g = rw (quotable-no-quote x w, w, quoted) (ap (λ y. then y (with-first x)) (quoted-complete d g))
+quoted-complete (Escaped.two-quotes d) g = ap (λ y. then y (with-first DQUOTE)) (quoted-complete d g)
 
 -- ---- a field
 pub field-sound : (l : List ℕ) → Gives (Splits l) (field l)

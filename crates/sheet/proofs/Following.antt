@@ -13,7 +13,7 @@ use lib.ListN.{length, getD, set, take, drop, length-set, length-drop}
 use lib.Seq.{take-suc-set, drop-drop}
 use Rattle.bits.proofs.Booleans.{below-or-not}
 use Rattle.sheet.specs.Rfc4180.{COMMA}
-use Rattle.sheet.specs.Reading.{Read, none, read, then, field, number, numbered, with-byte, argument, arguments}
+use Rattle.sheet.specs.Reading.{Read, none, read, then, field, number, numbered, with-first, argument, arguments}
 use Rattle.sheet.specs.Found.{NotPlain, no-field, not-text, text-in, Meant, plain, other, FieldIs, ArgumentIs, ArgumentsAre}
 use Rattle.sheet.specs.declared.csv.Field.{Field}
 use Rattle.sheet.specs.declared.reading.Argument.{Argument}
@@ -91,7 +91,7 @@ module _ {count : ℕ} {l numbers : List ℕ} {at i : ℕ} (g : Collected count 
       omega (arith, a .inside refl .1, length-drop at l, g .inside)
 
   module _ (more : i < count) where
-    one-of : arguments (count - i) (drop at l) ≡ then (argument (drop at l)) (λ x r. then (arguments (count - suc i) r) (with-byte x))
+    one-of : arguments (count - i) (drop at l) ≡ then (argument (drop at l)) (λ x r. then (arguments (count - suc i) r) (with-first x))
     unfolding arguments
     one-of = let s : count - i ≡ suc (count - suc i) = omega arith in rw s
 
@@ -107,7 +107,7 @@ module _ {count : ℕ} {l numbers : List ℕ} {at i : ℕ} (g : Collected count 
           rest = g .rest ∙ rw (one-of, sym (a .same), drop-drop next at l) (behind (arguments (count - suc i) (drop (at + next) l)));
         })
       where
-        behind : (q : Read (List ℕ)) → then (then q (with-byte n)) (λ xs r. read (take i numbers ++ xs) r) ≡ then q (λ xs r. read (take (suc i) (set numbers i n) ++ xs) r)
+        behind : (q : Read (List ℕ)) → then (then q (with-first n)) (λ xs r. read (take i numbers ++ xs) r) ≡ then q (λ xs r. read (take (suc i) (set numbers i n) ++ xs) r)
         behind none = refl
         behind (read xs r) = ap (λ ys. read ys r) (sym (ap (λ ys. ys ++ xs) (take-suc-set numbers i n (omega (arith, g .room))) ∙ append-assoc (take i numbers) (n ∷ []) xs))
 

@@ -1,18 +1,19 @@
 -- The grammar's and the form's laws, by cases.
 use mathlib.Core.Path.{_≡_, refl, ap, sym, subst, _∙_}
-use mathlib.Core.Logic.{⊎-elim}
-use mathlib.Core.Bool.{false≢true}
+use mathlib.Core.Logic.{_⊎_, inl, inr, ⊎-elim}
+use mathlib.Core.Bool.{Bool, true, false, false≢true, _||_}
 use mathlib.Core.List.{List, [], _∷_, _++_}
-use Prim.Native.Nat.{ℕ, zero, suc, _%_, _≤_, _<_}
+use Prim.Native.Nat.{ℕ, zero, suc, _%_, _≤_}
 use native.Mathlib.Omega.{arith}
-use lib.ListN.{length, getD}
-use borrow.Author.Tests.{ne-eqb}
+use lib.Dec.{eqb}
+use lib.ListN.{getD}
+use borrow.Author.Tests.{eqb-true, ne-eqb}
 use Rattle.bits.proofs.Booleans.{below-or-not}
 use Rattle.mtas.specs.Call.{Call, arguments}
 use Rattle.mtas.specs.Record.{kind}
-use Rattle.sheet.specs.Rfc4180.{textdata, COMMA, Field, Row}
-use Rattle.sheet.specs.Form.{Form}
-use Rattle.sheet.specs.Grammar.{ByteLaws, RowLaws, FormLaws}
+use Rattle.sheet.specs.Rfc4180.{DQUOTE, textdata, quotable, Text, Escaped, Field, Row}
+use Rattle.sheet.specs.Form.{Form, Says, says}
+use Rattle.sheet.specs.Grammar.{ByteLaws, Each, doubled, FieldLaws, FormLaws}
 use Rattle.sheet.proofs.Bytes.{below-text, above-text, the-quote, the-text, in-quotes}
 
 pub byte-laws : ByteLaws
@@ -31,19 +32,57 @@ byte-laws = record {
   not-in-quotes = λ x h a b c. rw (h, ne-eqb x 44 a, ne-eqb x 13 b, ne-eqb x 10 c);
 }
 
-pub row-laws : RowLaws
-row-laws = record { some = some; one = λ b t. (alone, Row.last-field); more = λ b t u ts. (first, λ (d, c, q, f, w). subst (λ y. Row y (t ∷ u ∷ ts)) (sym q) (Row.one-more f w)) }
+-- ---- fields
+texts : (t : List ℕ) → Each textdata t → Text t
+texts [] e = Text.no-more
+texts (x ∷ t) e = Text.one-more (e 0 (omega arith)) (texts t (λ i h. e (suc i) (omega arith)))
+
+each-text : {t : List ℕ} → Text t → Each textdata t
+each-text Text.no-more i h = absurd (omega arith)
+each-text (Text.one-more e w) zero h = e
+each-text (Text.one-more e w) (suc i) h = each-text w i (omega arith)
+
+abbrev inside : ℕ → Bool
+inside x = eqb x DQUOTE || quotable x
+
+no-quote : (x : ℕ) → quotable x ≡ true → x ≡ DQUOTE → ⊥
+unfolding textdata
+no-quote x h e = false≢true (ap quotable (sym e) ∙ h)
+
+escapes : (t : List ℕ) → Each inside t → Escaped (doubled t) t
+unfolding doubled
+escapes [] e = Escaped.no-more
+escapes (x ∷ t) e = go (eqb x DQUOTE) refl (escapes t (λ i h. e (suc i) (omega arith)))
   where
-    some : {b : List ℕ} {ts : List (List ℕ)} → Row b ts → 0 < length ts
-    some (Row.last-field f) = omega arith
-    some (Row.one-more f w) = omega arith
+    go : (y : Bool) → eqb x DQUOTE ≡ y → Escaped (doubled t) t → Escaped (doubled (x ∷ t)) (x ∷ t)
+    go true q d = rw (q, doubled) (subst (λ z. Escaped (DQUOTE ∷ DQUOTE ∷ doubled t) (z ∷ t)) (sym (eqb-true x DQUOTE q)) (Escaped.two-quotes d))
+    go false q d = rw (q, doubled) (Escaped.one-more (rw q at (e 0 (omega arith))) d)
 
-    alone : {b t : List ℕ} → Row b (t ∷ []) → Field b t
-    alone (Row.last-field f) = f
+undoubled : {b t : List ℕ} → Escaped b t → b ≡ doubled t
+unfolding doubled
+undoubled Escaped.no-more = refl
+undoubled (Escaped.one-more {x = x} h d) = rw (ne-eqb x DQUOTE (no-quote x h), doubled) (ap (λ y. x ∷ y) (undoubled d))
+undoubled (Escaped.two-quotes d) = ap (λ y. DQUOTE ∷ DQUOTE ∷ y) (undoubled d)
 
-    first : {b t u : List ℕ} {ts : List (List ℕ)} → Row b (t ∷ u ∷ ts) → (d : List ℕ) × (c : List ℕ) × (b ≡ d ++ (COMMA ∷ c)) × Field d t × Row c (u ∷ ts)
-    first (Row.one-more {b = d} {c = c} f w) = (d, c, refl, f, w)
+each-inside : {b t : List ℕ} → Escaped b t → Each inside t
+each-inside Escaped.no-more i h = absurd (omega arith)
+each-inside (Escaped.one-more {x = x} e d) zero h = rw (ne-eqb x DQUOTE (no-quote x e)) e
+each-inside (Escaped.one-more e d) (suc i) h = each-inside d i (omega arith)
+each-inside (Escaped.two-quotes d) zero h = refl
+each-inside (Escaped.two-quotes d) (suc i) h = each-inside d i (omega arith)
 
+pub field-laws : FieldLaws
+field-laws = record { one-of-two = λ b t. (there, back b t) }
+  where
+    there : {b t : List ℕ} → Field b t → ((b ≡ t) × Each textdata t) ⊎ ((b ≡ DQUOTE ∷ (doubled t ++ (DQUOTE ∷ []))) × Each inside t)
+    there (Field.non-escaped w) = inl (refl, each-text w)
+    there (Field.escaped d) = inr (ap (λ y. DQUOTE ∷ (y ++ (DQUOTE ∷ []))) (undoubled d), each-inside d)
+
+    back : (b t : List ℕ) → ((b ≡ t) × Each textdata t) ⊎ ((b ≡ DQUOTE ∷ (doubled t ++ (DQUOTE ∷ []))) × Each inside t) → Field b t
+    back b t (inl (q, e)) = subst (λ y. Field y t) (sym q) (Field.non-escaped (texts t e))
+    back b t (inr (q, e)) = subst (λ y. Field y t) (sym q) (Field.escaped (escapes t e))
+
+-- ---- the form
 one-of : {x : ℕ} → x ≤ 15 → (n : ℕ) → getD (x ∷ []) n 0 ≤ 15
 one-of h zero = h
 one-of h (suc n) = omega arith
@@ -61,7 +100,7 @@ seven (Form.a-user h) = (refl, omega arith, omega arith)
 seven (Form.a-role h) = (refl, omega arith, omega arith)
 seven (Form.a-permission h) = (refl, omega arith, omega arith)
 seven (Form.a-trust h) = (refl, omega arith, omega arith)
-seven (Form.a-gift h i) = (refl, omega arith, omega arith)
+seven (Form.a-giving h i) = (refl, omega arith, omega arith)
 seven (Form.a-grant h i j) = (refl, omega arith, omega arith)
 seven (Form.an-attachment h i j) = (refl, omega arith, omega arith)
 
@@ -70,7 +109,7 @@ one-spelling (Form.a-user h) (Form.a-user i) = refl
 one-spelling (Form.a-role h) (Form.a-role i) = refl
 one-spelling (Form.a-permission h) (Form.a-permission i) = refl
 one-spelling (Form.a-trust h) (Form.a-trust i) = refl
-one-spelling (Form.a-gift h i) (Form.a-gift j k) = refl
+one-spelling (Form.a-giving h i) (Form.a-giving j k) = refl
 one-spelling (Form.a-grant h i j) (Form.a-grant k l m) = refl
 one-spelling (Form.an-attachment h i j) (Form.an-attachment k l m) = refl
 
@@ -79,9 +118,12 @@ small (Form.a-user h) n = one-of h n
 small (Form.a-role h) n = one-of h n
 small (Form.a-permission h) n = one-of h n
 small (Form.a-trust h) n = one-of h n
-small (Form.a-gift h i) n = two-of h i n
+small (Form.a-giving h i) n = two-of h i n
 small (Form.a-grant h i j) n = three-of h i j n
 small (Form.an-attachment h i j) n = three-of h i j n
 
 pub form-laws : FormLaws
-form-laws = record { seven = seven; one-spelling = one-spelling; small = small }
+form-laws = record { seven = seven; one-spelling = one-spelling; small = small; said = λ b k. (parts, λ (ts, w, f). says w f) }
+  where
+    parts : {b : List ℕ} {k : Call} → Says b k → (ts : List (List ℕ)) × Row b ts × Form ts k
+    parts (says {ts = ts} w f) = (ts, w, f)

@@ -91,7 +91,7 @@ module _ (c : ℕ) (small : c ≤ 15) where
     roles = λ r h. of-one (with-number (word role refl) r h) (Form.a-role h);
     permissions = λ p h. of-one (with-number (word perm refl) p h) (Form.a-permission h);
     trusts = λ j h. of-one (with-number (word trust refl) j h) (Form.a-trust h);
-    gifts = λ u r h i. of-one (with-number (with-number (word give refl) u h) r i) (Form.a-gift h i);
+    givings = λ u r h i. of-one (with-number (with-number (word give refl) u h) r i) (Form.a-giving h i);
     grants = λ p i r h j k. of-one (with-number (with-number (with-number (word grant refl) p h) i j) r k) (Form.a-grant h j k);
     attachments = λ q i r h j k. of-one (with-number (with-number (with-number (word attach refl) q h) i j) r k) (Form.an-attachment h j k);
     behind-lines = λ a b ks ls v w. subst (Makes (a ++ b) c) (records-behind ks ls) (makes (behind-lines v w));

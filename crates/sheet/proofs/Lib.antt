@@ -1,7 +1,9 @@
 pub mod Exact
 pub mod Laws
+pub mod RowLaws
 pub mod Grammar
 pub mod AtExit
+pub mod Room
 pub mod Examples
 pub mod Digits
 mod Bytes

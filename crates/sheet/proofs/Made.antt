@@ -41,7 +41,7 @@ matched Word.a-user n = record { form = _; its-kind = refl; its-count = refl; en
 matched Word.a-role n = record { form = _; its-kind = refl; its-count = refl; encodes = λ c x y z. refl; long = omega arith; some = omega arith }
 matched Word.a-permission n = record { form = _; its-kind = refl; its-count = refl; encodes = λ c x y z. refl; long = omega arith; some = omega arith }
 matched Word.a-trust n = record { form = _; its-kind = refl; its-count = refl; encodes = λ c x y z. refl; long = omega arith; some = omega arith }
-matched Word.a-gift n = record { form = _; its-kind = refl; its-count = refl; encodes = λ c x y z. refl; long = omega arith; some = omega arith }
+matched Word.a-giving n = record { form = _; its-kind = refl; its-count = refl; encodes = λ c x y z. refl; long = omega arith; some = omega arith }
 matched Word.a-grant n = record { form = _; its-kind = refl; its-count = refl; encodes = λ c x y z. refl; long = omega arith; some = omega arith }
 matched Word.an-attachment n = record { form = _; its-kind = refl; its-count = refl; encodes = λ c x y z. refl; long = omega arith; some = omega arith }
 matched Word.another n = absurd (n refl)

@@ -14,6 +14,11 @@ use Rattle.sheet.specs.Form.{user, role, perm, trust, give, grant, attac
 use Rattle.sheet.specs.Reading.{words, same, kind-in, kind-named, with-digit, number}
 
 -- ---- numbers
+pub single-digit : (x : ℕ) → 48 ≤ x → x ≤ 57 → x ∷ [] ≡ decimal (x - 48)
+single-digit x l m =
+    let s : x ≡ 48 + (x - 48) = omega arith in
+    ap (λ y. y ∷ []) s ∙ sym (decimal-small (x - 48) (omega arith))
+
 two-digits : (n : ℕ) → 10 ≤ n → n ≤ 19 → decimal n ≡ 49 ∷ (38 + n) ∷ []
 two-digits n l h =
     let tens : n / 10 ≡ 1 = omega arith in
@@ -37,10 +42,8 @@ unfolding number
 number-sound [] h = absurd (omega arith)
 number-sound (x ∷ []) h =
     let (a, b, e) = digit-in 0 57 x h in
-    let n : x - 48 < 10 = omega arith in
-    let s : x ≡ 48 + (x - 48) = omega arith in
     let z : 0 + (x - 48) ≡ x - 48 = omega arith in
-    ap (λ y. y ∷ []) s ∙ sym (decimal-small (x - 48) n) ∙ ap decimal (sym (e ∙ z))
+    single-digit x a b ∙ ap decimal (sym (e ∙ z))
 number-sound (x ∷ y ∷ []) h = go (eqb x 49) refl
   where
     go : (z : Bool) → eqb x 49 ≡ z → x ∷ y ∷ [] ≡ decimal (number (x ∷ y ∷ []))
@@ -92,7 +95,7 @@ pub data Word : List ℕ → ℕ → Type 0 where
   a-role : Word role 7
   a-permission : Word perm 9
   a-trust : Word trust 3
-  a-gift : Word give 11
+  a-giving : Word give 11
   a-grant : Word grant 13
   an-attachment : Word attach 15
   another : {t : List ℕ} → Word t 0
@@ -111,4 +114,4 @@ kind-in-sound ((w, k) ∷ l) (a, more) t = go (same t w) refl (kind-in-sound l m
 
 pub kind-named-sound : (t : List ℕ) → Word t (kind-named t)
 unfolding kind-named
-kind-named-sound t = kind-in-sound words (a-user, (a-role, (a-permission, (a-trust, (a-gift, (a-grant, (an-attachment, tt))))))) t
+kind-named-sound t = kind-in-sound words (a-user, (a-role, (a-permission, (a-trust, (a-giving, (a-grant, (an-attachment, tt))))))) t

@@ -10,7 +10,7 @@ use lib.ListN.{length, getD, take, drop, List·getD-eq-default}
 use lib.Seq.{getD-drop, drop-drop}
 use Rattle.bits.proofs.Booleans.{below-or-not}
 use Rattle.sheet.specs.Rfc4180.{DQUOTE, textdata, quotable, Text}
-use Rattle.sheet.specs.Reading.{Read, none, read, then, textual, with-byte, quoted, field}
+use Rattle.sheet.specs.Reading.{Read, none, read, then, textual, with-first, quoted, field}
 use Rattle.sheet.specs.Found.{NotPlain, no-field, not-text, plain, other, FieldIs}
 use Rattle.sheet.proofs.Bytes.{the-quote, in-quotes}
 use Rattle.sheet.proofs.Texts.{text-first, no-text-first}
@@ -36,16 +36,16 @@ text-tail : {x : ℕ} {t : List ℕ} → Text (x ∷ t) → Text t
 text-tail (Text.one-more h w) = w
 
 -- a byte that isn't TEXTDATA in a text
-starts : (x : ℕ) → false ≡ textdata x → (q : Read (List ℕ)) → NotPlain (then q (with-byte x))
+starts : (x : ℕ) → false ≡ textdata x → (q : Read (List ℕ)) → NotPlain (then q (with-first x))
 starts x e none = no-field
 starts x e (read t l) = not-text (λ w. false≢true (e ∙ text-head w))
 
-goes-on : (x : ℕ) {q : Read (List ℕ)} → NotPlain q → NotPlain (then q (with-byte x))
+goes-on : (x : ℕ) {q : Read (List ℕ)} → NotPlain q → NotPlain (then q (with-first x))
 goes-on x no-field = no-field
 goes-on x (not-text n) = not-text (λ w. n (text-tail w))
 
 -- a byte of TEXTDATA
-step : (x : ℕ) (l : List ℕ) → true ≡ textdata x → quoted false (x ∷ l) ≡ then (quoted false l) (with-byte x)
+step : (x : ℕ) (l : List ℕ) → true ≡ textdata x → quoted false (x ∷ l) ≡ then (quoted false l) (with-first x)
 unfolding quoted
 step x l e =
     let d = ne-eqb x DQUOTE (λ q. false≢true (the-quote x q ∙ sym e)) in
@@ -69,11 +69,11 @@ closed (x ∷ l) a b = go (textdata x) refl (closed l) a b
         → (getD l (end-of l) 0 ≡ DQUOTE → (getD l (suc (end-of l)) 0 ≡ DQUOTE → ⊥) → quoted false l ≡ read (textual l) (drop (suc (end-of l)) l))
         → getD (x ∷ l) (end-of (x ∷ l)) 0 ≡ DQUOTE → (getD (x ∷ l) (suc (end-of (x ∷ l))) 0 ≡ DQUOTE → ⊥)
         → quoted false (x ∷ l) ≡ read (textual (x ∷ l)) (drop (suc (end-of (x ∷ l))) (x ∷ l))
-    go true e f a b = rw (text-first x l e, step x l e) (ap (λ q. then q (with-byte x)) (f (rw (text-first x l e) at a) (rw (text-first x l e) at b)))
+    go true e f a b = rw (text-first x l e, step x l e) (ap (λ q. then q (with-first x)) (f (rw (text-first x l e) at a) (rw (text-first x l e) at b)))
     go false e f a b = rw (no-text-first x l e, eq-eqb x DQUOTE (rw (no-text-first x l e) at a), quoted) (last l (rw (no-text-first x l e) at b))
 
 -- another byte isn't plain text, or ends the bytes
-pub not-closed : (l : List ℕ) → (getD l (end-of l) 0 ≡ DQUOTE → ⊥) → NotPlain (quoted false l)
+not-closed : (l : List ℕ) → (getD l (end-of l) 0 ≡ DQUOTE → ⊥) → NotPlain (quoted false l)
 unfolding quoted
 not-closed [] n = no-field
 not-closed (x ∷ l) n = go (textdata x) refl (not-closed l) n

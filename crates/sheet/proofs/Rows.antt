@@ -78,7 +78,7 @@ word-fits Word.a-user = of-one (λ ts. Form (user ∷ ts)) AddUser (λ x h. Form
 word-fits Word.a-role = of-one (λ ts. Form (role ∷ ts)) AddRole (λ x h. Form.a-role h)
 word-fits Word.a-permission = of-one (λ ts. Form (perm ∷ ts)) AddPerm (λ x h. Form.a-permission h)
 word-fits Word.a-trust = of-one (λ ts. Form (trust ∷ ts)) AssignTrust (λ x h. Form.a-trust h)
-word-fits Word.a-gift = of-two (λ ts. Form (give ∷ ts)) AssignUser (λ x y h i. Form.a-gift h i)
+word-fits Word.a-giving = of-two (λ ts. Form (give ∷ ts)) AssignUser (λ x y h i. Form.a-giving h i)
 word-fits Word.a-grant = of-three (λ ts. Form (grant ∷ ts)) AssignPerm (λ x y z h i j. Form.a-grant h i j)
 word-fits Word.an-attachment = of-three (λ ts. Form (attach ∷ ts)) AssignRH (λ x y z h i j. Form.an-attachment h i j)
 word-fits Word.another = tt
@@ -93,7 +93,7 @@ form-named (Form.a-user {u = u} h) = named user (u ∷ []) _ refl refl (h, tt)
 form-named (Form.a-role {r = r} h) = named role (r ∷ []) _ refl refl (h, tt)
 form-named (Form.a-permission {p = p} h) = named perm (p ∷ []) _ refl refl (h, tt)
 form-named (Form.a-trust {j = j} h) = named trust (j ∷ []) _ refl refl (h, tt)
-form-named (Form.a-gift {u = u} {r = r} h i) = named give (u ∷ r ∷ []) _ refl refl (h, (i, tt))
+form-named (Form.a-giving {u = u} {r = r} h i) = named give (u ∷ r ∷ []) _ refl refl (h, (i, tt))
 form-named (Form.a-grant {p = p} {i = i} {r = r} h j k) = named grant (p ∷ i ∷ r ∷ []) _ refl refl (h, (j, (k, tt)))
 form-named (Form.an-attachment {q = q} {i = i} {r = r} h j k) = named attach (q ∷ i ∷ r ∷ []) _ refl refl (h, (j, (k, tt)))
 

@@ -20,7 +20,7 @@ two-texts (Form.a-user h) = omega arith
 two-texts (Form.a-role h) = omega arith
 two-texts (Form.a-permission h) = omega arith
 two-texts (Form.a-trust h) = omega arith
-two-texts (Form.a-gift h i) = omega arith
+two-texts (Form.a-giving h i) = omega arith
 two-texts (Form.a-grant h i j) = omega arith
 two-texts (Form.an-attachment h i j) = omega arith
 

@@ -37,7 +37,7 @@ got c none b l e = let z : _≡_ {A = ℕ} 0 1 = cc in absurd (omega arith)
 got c (read k m) b l e = let s : l ≡ m = cc in record { call = k; was = ap (read k) (sym s); bytes = cc }
 
 -- a record is as long as its header and its arguments
-pub record-length : (c : ℕ) (k : Called) → k .count ≤ 3 → length (record-of (k .kind) c (slots-of k)) ≡ header + k .count
+record-length : (c : ℕ) (k : Called) → k .count ≤ 3 → length (record-of (k .kind) c (slots-of k)) ≡ header + k .count
 record-length c k h = omega (arith, length-take (k .count) (k .slots .x ∷ k .slots .y ∷ k .slots .z ∷ []))
 
 -- what the code reads at a place of the sheet

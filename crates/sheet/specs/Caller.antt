@@ -31,7 +31,11 @@ abbrev pub named-of : Caller → CallerNamed
 named-of (Number n) = a-caller n
 named-of Other = no-caller
 
--- every number names a caller: itself up to 15, and above it one that the converter turns down
+-- every number names a caller: itself up to 15, and above it one that the converter turns down; no other text does
 pub record CallerLaws : Type 0 where
   pub own : (n : ℕ) → n ≤ 15 → caller-in (decimal n) ≡ a-caller n
   pub above : (n : ℕ) → 15 < n → caller-in (decimal n) ≡ a-caller 16
+  pub no-number : (t : List ℕ) → ((n : ℕ) → t ≡ decimal n → ⊥) → caller-in t ≡ no-caller
+  -- what the code answers then
+  pub number-told : (r : Caller) (n : ℕ) → named-of r ≡ a-caller n → r ≡ Number n
+  pub other-told : (r : Caller) → named-of r ≡ no-caller → r ≡ Other

@@ -38,6 +38,8 @@ pub record Examples : Type 0 where
   pub another-separator : rows (ascii "user;3") ≡ wrong-at 1
   pub no-number : rows (ascii "user,") ≡ wrong-at 1
   pub comma-behind : rows (ascii "user,3,") ≡ wrong-at 1
+  pub filled-up : rows (ascii "user,3,,\r\n") ≡ wrong-at 1
+  pub one-filled-up : rows (ascii "give,1,2,\r\n") ≡ wrong-at 1
   pub comma-before-crlf : rows (ascii "user,3,\r\nrole,1") ≡ wrong-at 1
   pub one-too-many : rows (ascii "user,3,4") ≡ wrong-at 1
   pub one-too-few : rows (ascii "grant,1,2") ≡ wrong-at 1
@@ -54,6 +56,10 @@ pub record Examples : Type 0 where
   pub unclosed-over-lines : rows (ascii "user,3\r\n\"role,1\r\nuser,4\r\n") ≡ wrong-at 2
   pub text-behind-a-quote : rows (ascii "\"user\"x,3") ≡ wrong-at 1
   pub space-behind-a-quote : rows (ascii "\"user\" ,3") ≡ wrong-at 1
+  pub space-before-a-quote : rows (ascii "user, \"3\"") ≡ wrong-at 1
+  pub word-partly-quoted : rows (ascii "\"us\"er,3") ≡ wrong-at 1
+  pub number-partly-quoted : rows (ascii "user,\"1\"5") ≡ wrong-at 1
+  pub quotes-inside : rows (ascii "us\"er\",3") ≡ wrong-at 1
   pub empty-word : rows (ascii "\"\",3") ≡ wrong-at 1
   pub empty-number : rows (ascii "user,\"\"") ≡ wrong-at 1
   -- ---- 6: 'Fields containing line breaks (CRLF), double quotes, and commas should be enclosed in double-quotes'
@@ -86,7 +92,8 @@ pub record Examples : Type 0 where
   pub two-zeros : rows (ascii "user,00") ≡ wrong-at 1
   pub plus : rows (ascii "user,+3") ≡ wrong-at 1
   pub letter : rows (ascii "user,a") ≡ wrong-at 1
-  -- ---- the words' bytes
+  -- ---- the bytes of the marks and the words
+  pub marks : ascii ",\"\r\n" ≡ 44 ∷ 34 ∷ 13 ∷ 10 ∷ []
   pub user-bytes : user ≡ 117 ∷ 115 ∷ 101 ∷ 114 ∷ []
   pub role-bytes : role ≡ 114 ∷ 111 ∷ 108 ∷ 101 ∷ []
   pub perm-bytes : perm ≡ 112 ∷ 101 ∷ 114 ∷ 109 ∷ []

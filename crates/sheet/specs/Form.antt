@@ -41,7 +41,7 @@ pub data Form : List (List ℕ) → Call → Type 0 where
   a-role : {r : ℕ} → r ≤ 15 → Form (role ∷ decimal r ∷ []) (AddRole r)
   a-permission : {p : ℕ} → p ≤ 15 → Form (perm ∷ decimal p ∷ []) (AddPerm p)
   a-trust : {j : ℕ} → j ≤ 15 → Form (trust ∷ decimal j ∷ []) (AssignTrust j)
-  a-gift : {u r : ℕ} → u ≤ 15 → r ≤ 15 → Form (give ∷ decimal u ∷ decimal r ∷ []) (AssignUser u r)
+  a-giving : {u r : ℕ} → u ≤ 15 → r ≤ 15 → Form (give ∷ decimal u ∷ decimal r ∷ []) (AssignUser u r)
   a-grant : {p i r : ℕ} → p ≤ 15 → i ≤ 15 → r ≤ 15 → Form (grant ∷ decimal p ∷ decimal i ∷ decimal r ∷ []) (AssignPerm p i r)
   an-attachment : {q i r : ℕ} → q ≤ 15 → i ≤ 15 → r ≤ 15 → Form (attach ∷ decimal q ∷ decimal i ∷ decimal r ∷ []) (AssignRH q i r)
 

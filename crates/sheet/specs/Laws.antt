@@ -40,7 +40,7 @@ pub record SheetLaws (c : ℕ) : Type 0 where
   pub roles : (r : ℕ) → r ≤ 15 → Makes (role ++ arg r) c (6 ∷ 0 ∷ 7 ∷ 0 ∷ c ∷ r ∷ [])
   pub permissions : (p : ℕ) → p ≤ 15 → Makes (perm ++ arg p) c (6 ∷ 0 ∷ 9 ∷ 0 ∷ c ∷ p ∷ [])
   pub trusts : (j : ℕ) → j ≤ 15 → Makes (trust ++ arg j) c (6 ∷ 0 ∷ 3 ∷ 0 ∷ c ∷ j ∷ [])
-  pub gifts : (u r : ℕ) → u ≤ 15 → r ≤ 15 → Makes (give ++ arg u ++ arg r) c (7 ∷ 0 ∷ 11 ∷ 0 ∷ c ∷ u ∷ r ∷ [])
+  pub givings : (u r : ℕ) → u ≤ 15 → r ≤ 15 → Makes (give ++ arg u ++ arg r) c (7 ∷ 0 ∷ 11 ∷ 0 ∷ c ∷ u ∷ r ∷ [])
   pub grants : (p i r : ℕ) → p ≤ 15 → i ≤ 15 → r ≤ 15 → Makes (grant ++ arg p ++ arg i ++ arg r) c (8 ∷ 0 ∷ 13 ∷ 0 ∷ c ∷ p ∷ i ∷ r ∷ [])
   pub attachments : (q i r : ℕ) → q ≤ 15 → i ≤ 15 → r ≤ 15 → Makes (attach ++ arg q ++ arg i ++ arg r) c (8 ∷ 0 ∷ 15 ∷ 0 ∷ c ∷ q ∷ i ∷ r ∷ [])
   -- a sheet behind lines: the records of both, and behind a row that lacks its CRLF when it is given one
@@ -67,6 +67,10 @@ pub record BufferLaws (csv out : List ℕ) (c : ℕ) : Type 0 where
 abbrev pub ComesBack : Type 0
 ComesBack = (csv out : List ℕ) (c : ℕ) → c ≤ 15 → (ks : List Call) → Sheet csv ks → length (records c ks) ≤ length out
     → map decode (read-journal (take (converted csv c out .answer .bytes) (converted csv c out .out)) .records) ≡ map (request c) ks
+
+-- no record is longer than its row, so a buffer as long as the sheet has room
+abbrev pub EnoughRoom : Type 0
+EnoughRoom = (csv : List ℕ) (c : ℕ) (ks : List Call) → Sheet csv ks → length (records c ks) ≤ length csv
 
 -- '15, a caller above 15', whatever the sheet
 abbrev pub StrangeCaller : Type 0

@@ -24,15 +24,15 @@ unfoldable pub textual : List ℕ → List ℕ
 textual [] = []
 textual (x ∷ l) = elim (textdata x) [ true ↦ x ∷ textual l | false ↦ [] ]
 
-abbrev pub with-byte : ℕ → List ℕ → List ℕ → Read (List ℕ)
-with-byte x t l = read (x ∷ t) l
+abbrev pub with-first : ℕ → List ℕ → List ℕ → Read (List ℕ)
+with-first x t l = read (x ∷ t) l
 
 -- a quoted field behind its first quote; of two quotes the first is held until the next byte says whether it closes the field
 unfoldable pub quoted : Bool → List ℕ → Read (List ℕ)
 quoted false [] = none
-quoted false (x ∷ l) = elim (eqb x DQUOTE) [ true ↦ quoted true l | false ↦ elim (quotable x) [ true ↦ then (quoted false l) (with-byte x) | false ↦ none ] ]
+quoted false (x ∷ l) = elim (eqb x DQUOTE) [ true ↦ quoted true l | false ↦ elim (quotable x) [ true ↦ then (quoted false l) (with-first x) | false ↦ none ] ]
 quoted true [] = read [] []
-quoted true (x ∷ l) = elim (eqb x DQUOTE) [ true ↦ then (quoted false l) (with-byte DQUOTE) | false ↦ read [] (x ∷ l) ]
+quoted true (x ∷ l) = elim (eqb x DQUOTE) [ true ↦ then (quoted false l) (with-first DQUOTE) | false ↦ read [] (x ∷ l) ]
 
 unfoldable pub field : List ℕ → Read (List ℕ)
 field l = elim (eqb (getD l 0 0) DQUOTE) [ true ↦ quoted false (drop 1 l) | false ↦ read (textual l) (drop (length (textual l)) l) ]
@@ -78,7 +78,7 @@ argument l = elim (eqb (getD l 0 0) COMMA) [ true ↦ then (field (drop 1 l)) nu
 
 unfoldable pub arguments : ℕ → List ℕ → Read (List ℕ)
 arguments zero l = read [] l
-arguments (suc n) l = then (argument l) (λ x r. then (arguments n r) (with-byte x))
+arguments (suc n) l = then (argument l) (λ x r. then (arguments n r) (with-first x))
 
 -- the row's end: the end of the sheet, or CRLF
 unfoldable pub ended : Call → List ℕ → Read Call

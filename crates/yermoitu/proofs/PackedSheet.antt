@@ -39,6 +39,7 @@ pub both-told : BothTold
 both-told = record {
   line-of = λ c e h. let (a, b) = line-of c e h in (a ∙ e, b);
   bytes-of = λ c d h. bytes-of c d h;
+  buffer-of = λ c. c .same-out;
   third-line = refl;
   twelve-bytes = refl;
   too-short = refl;

@@ -20,12 +20,13 @@ pub record Converts (defined : Result) (number : ℕ) (out : List ℕ) : Type 0 
   pub error-fits : defined .answer .error < 65536
   pub same-out : out ≡ defined .out
 
--- both numbers come back
+-- both numbers come back, and the buffer is the definition's to the last byte
 pub record BothTold : Type 0 where
   pub line-of : {defined : Result} {number : ℕ} {out : List ℕ} → Converts defined number out → defined .answer .error ≡ 15 → defined .answer .line < 281474976710656
       → (number % 65536 ≡ 15) × (number / 65536 ≡ defined .answer .line)
   pub bytes-of : {defined : Result} {number : ℕ} {out : List ℕ} → Converts defined number out → (defined .answer .error ≡ 15 → ⊥) → defined .answer .bytes < 281474976710656
       → (number % 65536 ≡ defined .answer .error) × (number / 65536 ≡ defined .answer .bytes)
+  pub buffer-of : {defined : Result} {number : ℕ} {out : List ℕ} → Converts defined number out → out ≡ defined .out
   pub third-line : packed-sheet 15 3 0 ≡ 196623
   pub twelve-bytes : packed-sheet 0 0 12 ≡ 786432
   pub too-short : packed-sheet 16 0 0 ≡ 16
