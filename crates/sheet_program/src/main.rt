@@ -1,5 +1,5 @@
 // The sheet program: makes records of the sheet on standard input, for the caller that its one argument names, on standard output.
-// Where it can't, it writes one line to standard error and nothing to standard output.
+// Where it can't, it writes one line to standard error and nothing to standard output, but for records whose writing failed midway.
 ghost use Prim.Native.Nat.{_≤_};
 ghost use lib.ListN.{length};
 use libc::STDERR_FILENO;
@@ -30,6 +30,12 @@ fn convert(csv: &[u8], caller: u8)
     }
 }
 
+// Whether standard input has come to its end: a read that fails isn't one.
+fn at_the_end() -> bool {
+    let mut more = [0u8; 1];
+    libc::read(STDIN_FILENO, &mut more) == 0
+}
+
 // One byte more than the limit is read: then the sheet is too long, whatever follows.
 fn main() {
     let mut text = [0u8; 32];
@@ -48,6 +54,10 @@ fn main() {
     let size = io::read_full(STDIN_FILENO, &mut input);
     if size > 262144 {
         complain(b"sheet: the sheet is longer than 262144 bytes\n");
+        return;
+    }
+    if !at_the_end() {
+        complain(b"sheet: the sheet could not be read\n");
         return;
     }
     convert(&input[..size], caller);
