@@ -29,7 +29,7 @@ pub struct SheetDifference {
 impl fmt::Display for SheetDifference {
     fn fmt(&self, out: &mut fmt::Formatter) -> fmt::Result {
         let (error, above) = (self.library % 65536, self.library / 65536);
-        let what = if error == 0 { "bytes" } else { "line" };
+        let what = if error == 15 { "line" } else { "bytes" };
         writeln!(out, "library:         error {error}, {what} {above}")?;
         let Told { error, line, bytes } = self.plain;
         write!(out, "plain converter: error {error}, line {line}, ")?;
