@@ -13,7 +13,7 @@ use Rattle.mtas.specs.Call.{Call, arguments}
 use Rattle.mtas.specs.Record.{kind}
 use Rattle.sheet.specs.Rfc4180.{DQUOTE, textdata, quotable, Text, Escaped, Field, Row}
 use Rattle.sheet.specs.Form.{Form, Says, says}
-use Rattle.sheet.specs.Grammar.{ByteLaws, Each, doubled, FieldLaws, FormLaws}
+use Rattle.sheet.specs.Grammar.{ByteLaws, Each, doubled, Bare, Quoted, FieldLaws, FormLaws}
 use Rattle.sheet.proofs.Bytes.{below-text, above-text, the-quote, the-text, in-quotes}
 
 pub byte-laws : ByteLaws
@@ -74,11 +74,11 @@ each-inside (Escaped.two-quotes d) (suc i) h = each-inside d i (omega arith)
 pub field-laws : FieldLaws
 field-laws = record { one-of-two = λ b t. (there, back b t) }
   where
-    there : {b t : List ℕ} → Field b t → ((b ≡ t) × Each textdata t) ⊎ ((b ≡ DQUOTE ∷ (doubled t ++ (DQUOTE ∷ []))) × Each inside t)
+    there : {b t : List ℕ} → Field b t → Bare b t ⊎ Quoted b t
     there (Field.non-escaped w) = inl (refl, each-text w)
     there (Field.escaped d) = inr (ap (λ y. DQUOTE ∷ (y ++ (DQUOTE ∷ []))) (undoubled d), each-inside d)
 
-    back : (b t : List ℕ) → ((b ≡ t) × Each textdata t) ⊎ ((b ≡ DQUOTE ∷ (doubled t ++ (DQUOTE ∷ []))) × Each inside t) → Field b t
+    back : (b t : List ℕ) → Bare b t ⊎ Quoted b t → Field b t
     back b t (inl (q, e)) = subst (λ y. Field y t) (sym q) (Field.non-escaped (texts t e))
     back b t (inr (q, e)) = subst (λ y. Field y t) (sym q) (Field.escaped (escapes t e))
 

@@ -26,9 +26,17 @@ unfoldable pub doubled : List ℕ → List ℕ
 doubled [] = []
 doubled (x ∷ t) = elim (eqb x DQUOTE) [ true ↦ DQUOTE ∷ DQUOTE ∷ doubled t | false ↦ x ∷ doubled t ]
 
--- a field is its text, TEXTDATA alone; or a quote, its text with each quote doubled, and a quote
+-- bytes that are their text, TEXTDATA alone
+abbrev pub Bare : List ℕ → List ℕ → Type 0
+Bare b t = (b ≡ t) × Each textdata t
+
+-- a quote, the text with each quote doubled, and a quote
+abbrev pub Quoted : List ℕ → List ℕ → Type 0
+Quoted b t = (b ≡ DQUOTE ∷ (doubled t ++ (DQUOTE ∷ []))) × Each (λ x. eqb x DQUOTE || quotable x) t
+
+-- a field is one of the two, and nothing else
 pub record FieldLaws : Type 0 where
-  pub one-of-two : (b t : List ℕ) → Field b t ↔ (((b ≡ t) × Each textdata t) ⊎ ((b ≡ DQUOTE ∷ (doubled t ++ (DQUOTE ∷ []))) × Each (λ x. eqb x DQUOTE || quotable x) t))
+  pub one-of-two : (b t : List ℕ) → Field b t ↔ (Bare b t ⊎ Quoted b t)
 
 -- a row is fields with commas between them, one at least
 pub record RowLaws : Type 0 where
