@@ -1,25 +1,27 @@
--- Kind 21 is refused for its caller, its arguments and its permission only, and a closed session's verdict is 0.
+-- Kind 21 is refused for its caller, its arguments and its permission only; a closed session's verdict is 0; its verdict is 1 exactly where the session may use the permission; no word changes.
 use mathlib.Core.Path.{_≡_, refl, ap, sym, _∙_}
-use mathlib.Core.Logic.{_↔_}
+use mathlib.Core.Logic.{_↔_, _⊎_, inl, inr}
 use mathlib.Core.Bool.{false}
 use mathlib.Core.List.{List, [], _∷_}
-use Prim.Native.Nat.{ℕ}
+use Prim.Native.Nat.{ℕ, suc}
 use borrow.Author.Tests.{lt-ltb, ltb-true}
 use Rattle.bits.proofs.Booleans.{clash}
-use Rattle.mtas.specs.Fact.{opened}
+use Rattle.mtas.specs.Fact.{enrolled, permission, granted, opened, active}
 use Rattle.mtas.specs.State.{State}
-use Rattle.mtas.specs.Answer.{accepted, first-cause, outcome, answer}
+use Rattle.mtas.specs.Law.{here, there, Lawful}
+use Rattle.mtas.specs.Answer.{Outcome, accepted, refused, first-cause, outcome, next}
 use Rattle.mtas.specs.Call.{CheckAccess}
 use Rattle.mtas.specs.Layout.{view}
 use Rattle.mtas.specs.LawTest.{LawfulWords}
 use Rattle.mtas.specs.Record.{request, decode}
-use Rattle.mtas.specs.Monitor.{monitor}
-use Rattle.mtas.specs.Decision.{Entitled}
+use Rattle.mtas.specs.Monitor.{turned-down, monitor}
+use Rattle.mtas.specs.Decision.{MayUsePermission, Entitled}
 use Rattle.mtas.specs.Access.{MayAsk, AccessChecks}
 use Rattle.mtas.proofs.Facts.{none-above-15}
 use Rattle.mtas.proofs.Guards.{passed}
 use Rattle.mtas.proofs.Answered.{is-accepted, accepts}
-use Rattle.mtas.proofs.Verdict.{else-0}
+use Rattle.mtas.proofs.Monitor.{monitor-idle, monitor-cases}
+use Rattle.mtas.proofs.Verdict.{verdict-iff, else-0}
 
 module _ (st : State) (c p i s : ℕ) where
   asked : outcome st c (CheckAccess p i s) ≡ accepted → MayAsk st c p i s
@@ -31,8 +33,29 @@ module _ (st : State) (c p i s : ℕ) where
   unfolding outcome first-cause
   may-ask m = rw (lt-ltb c 16 (m .is-issuer), m .is-enrolled, none-above-15 (p ∷ i ∷ s ∷ []) (m .small), m .is-there, first-cause)
 
+  -- who may be told yes may ask: a grant stands on the permission and on its issuer's enrolment
+  user-may-ask : Lawful st → MayUsePermission st c p i s → MayAsk st c p i s
+  user-may-ask L m =
+      let g = granted c p (m .reached .issuer) (m .reached .number) in
+      let t = L .numbered g (m .is-holder) in
+      let a = L .numbered (active i s (m .its-user) (m .its-role)) (m .is-active) in
+      record {
+        is-issuer = t .0;
+        is-enrolled = L .supported g (enrolled c) (m .is-holder) (search (here, there) depth 16);
+        small = (t .1 .0, (a .0, (a .1 .0, tt)));
+        is-there = L .supported g (permission c p) (m .is-holder) here;
+      }
+
+  asking-leaves : next st c (CheckAccess p i s) ≡ st
+  unfolding next
+  asking-leaves = go (outcome st c (CheckAccess p i s)) refl
+    where
+      go : (o : Outcome) → outcome st c (CheckAccess p i s) ≡ o → next st c (CheckAccess p i s) ≡ st
+      go accepted e = rw e
+      go (refused n) e = rw e
+
 pub access-checks : AccessChecks
-access-checks = record { accepted-iff = checked; closed-gives-0 = closed }
+access-checks = record { accepted-iff = checked; closed-gives-0 = closed; yes-iff = yes-where; nothing-changes = kept }
   where
     checked : (ws b : List ℕ) (c p i s : ℕ) → LawfulWords ws → decode b ≡ request c (CheckAccess p i s) → ((monitor ws b) .answer .refusal ≡ 0) ↔ MayAsk (view ws) c p i s
     checked ws b c p i s W d = (
@@ -40,12 +63,36 @@ access-checks = record { accepted-iff = checked; closed-gives-0 = closed }
       λ m. accepts ws b W d (may-ask (view ws) c p i s m),
     )
 
-    closed : (ws b : List ℕ) (c p i s : ℕ) → decode b ≡ request c (CheckAccess p i s) → ((u : ℕ) → (view ws) .stands (opened i s u) ≡ false) → (monitor ws b) .answer .verdict ≡ 0
-    closed ws b c p i s d n = else-0 ws b not-open
+    yes-where : (ws b : List ℕ) (c p i s : ℕ) → decode b ≡ request c (CheckAccess p i s) → ((monitor ws b) .answer .verdict ≡ 1) ↔ (LawfulWords ws × MayUsePermission (view ws) c p i s)
+    yes-where ws b c p i s d = (λ h. said (verdict-iff ws b .0 h), λ (W, m). verdict-iff ws b .1 (entitled W m))
       where
-        not-open : Entitled ws b → ⊥
-        not-open E =
+        said : Entitled ws b → LawfulWords ws × MayUsePermission (view ws) c p i s
+        said E =
             let e : request (E .owner) (CheckAccess (E .asked) (E .its-issuer) (E .session)) ≡ request c (CheckAccess p i s) = sym (E .is-check) ∙ d in
+            let o : E .owner ≡ c = cc in
+            let a : E .asked ≡ p = cc in
             let q : E .its-issuer ≡ i = cc in
             let t : E .session ≡ s = cc in
-            clash (E .may .is-open) (ap (λ x. (view ws) .stands (opened x (E .session) (E .may .its-user))) q ∙ ap (λ x. (view ws) .stands (opened i x (E .may .its-user))) t ∙ n (E .may .its-user))
+            (E .lawful, rw (o, a, q, t) at (E .may))
+
+        entitled : LawfulWords ws → MayUsePermission (view ws) c p i s → Entitled ws b
+        entitled W m = record {
+          owner = c;
+          asked = p;
+          its-issuer = i;
+          session = s;
+          lawful = W;
+          is-check = d;
+          is-accepted = checked ws b c p i s W d .1 (user-may-ask (view ws) c p i s (W .lawful) m);
+          may = m;
+        }
+
+    closed : (ws b : List ℕ) (c p i s : ℕ) → decode b ≡ request c (CheckAccess p i s) → ((u : ℕ) → (view ws) .stands (opened i s u) ≡ false) → (monitor ws b) .answer .verdict ≡ 0
+    closed ws b c p i s d n = else-0 ws b (λ E. let (W, m) = yes-where ws b c p i s d .0 (verdict-iff ws b .1 E) in clash (m .is-open) (n (m .its-user)))
+
+    kept : (ws b : List ℕ) (c p i s : ℕ) → decode b ≡ request c (CheckAccess p i s) → (monitor ws b) .words ≡ ws
+    kept ws b c p i s d = go (monitor-cases ws b)
+      where
+        go : (LawfulWords ws) ⊎ ((n : ℕ) × (monitor ws b ≡ turned-down (suc n) ws)) → (monitor ws b) .words ≡ ws
+        go (inl W) = ap (λ r. r .words) (monitor-idle ws b W (request c (CheckAccess p i s)) d (asking-leaves (view ws) c p i s))
+        go (inr (n, e)) = ap (λ r. r .words) e

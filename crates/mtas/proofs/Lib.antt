@@ -23,6 +23,7 @@ pub mod Verdict
 pub mod Answered
 pub mod Tried
 pub mod Access
+pub mod Chain
 pub mod Walks
 pub mod Isolation
 pub mod Alike

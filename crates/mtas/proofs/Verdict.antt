@@ -23,7 +23,7 @@ digit-true true h = refl
 digit-true false h = absurd (differ h)
 
 -- every verdict is 1 or 0
-abbrev OneOr0 : ℕ → Type 0
+abbrev pub OneOr0 : ℕ → Type 0
 OneOr0 v = (v ≡ 1) ⊎ (v ≡ 0)
 
 digits : (x : Bool) → OneOr0 (digit x)
@@ -113,7 +113,7 @@ module _ (ws b : List ℕ) where
   verdict-iff = (said, entitled)
 
   -- 'else 0'
-  two-verdicts : OneOr0 ((monitor ws b) .answer .verdict)
+  pub two-verdicts : OneOr0 ((monitor ws b) .answer .verdict)
   unfolding answer
   two-verdicts = go (monitor-cases ws b)
     where

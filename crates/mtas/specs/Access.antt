@@ -11,6 +11,7 @@ use Rattle.mtas.specs.Layout.{view}
 use Rattle.mtas.specs.LawTest.{LawfulWords}
 use Rattle.mtas.specs.Record.{request, decode}
 use Rattle.mtas.specs.Monitor.{monitor}
+use Rattle.mtas.specs.Decision.{MayUsePermission}
 
 -- all that c needs to ask for its permission p: of the session i/s only its numbers
 pub record MayAsk (st : State) (c p i s : ℕ) : Type 0 where
@@ -24,3 +25,8 @@ pub record AccessChecks : Type 0 where
       → ((monitor ws b) .answer .refusal ≡ 0) ↔ MayAsk (view ws) c p i s
   pub closed-gives-0 : (ws b : List ℕ) (c p i s : ℕ) → decode b ≡ request c (CheckAccess p i s)
       → ((u : ℕ) → (view ws) .stands (opened i s u) ≡ false) → (monitor ws b) .answer .verdict ≡ 0
+  -- the verdict is 1 where the words are a lawful state in which the session may use the permission, and only there: then all that c needs to ask is there
+  pub yes-iff : (ws b : List ℕ) (c p i s : ℕ) → decode b ≡ request c (CheckAccess p i s)
+      → ((monitor ws b) .answer .verdict ≡ 1) ↔ (LawfulWords ws × MayUsePermission (view ws) c p i s)
+  -- asking changes no word, of whatever words
+  pub nothing-changes : (ws b : List ℕ) (c p i s : ℕ) → decode b ≡ request c (CheckAccess p i s) → (monitor ws b) .words ≡ ws

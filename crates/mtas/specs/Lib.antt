@@ -17,6 +17,7 @@ pub mod Refusals
 pub mod Monitor
 pub mod Decision
 pub mod Access
+pub mod Chain
 pub mod Disclosure
 pub mod PublicRoles
 pub mod Activation
