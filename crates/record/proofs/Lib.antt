@@ -1,3 +1,4 @@
 mod Forms
 mod Bytes
 pub mod Padding
+pub mod Within

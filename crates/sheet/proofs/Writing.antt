@@ -3,7 +3,7 @@ use mathlib.Core.Path.{_≡_, refl, sym, ap, ap₂, _∙_}
 use mathlib.Core.List.{List, [], _∷_, _++_, append-assoc, append-nil}
 use Prim.Native.Nat.{ℕ, suc, _+_, _-_, _^_, _≤_, _<_}
 use native.Mathlib.Omega.{arith}
-use lib.ListN.{length, take, drop, length-take, length-drop, length-append, take-append-drop, drop-of-length-le}
+use lib.ListN.{length, take, drop, length-drop, length-append, take-append-drop, drop-of-length-le}
 use lib.Seq.{length-take-le, take-all, take-at, drop-at, drop-drop}
 use borrow.Rule.Slice.PartAt.{part-to-end}
 use borrow.Rule.Slice.PartMut.{putMid}
@@ -12,6 +12,7 @@ use mir.Val.{Fits}
 use Rattle.mtas.specs.Call.{Call}
 use Rattle.mtas.specs.Record.{record-of, encode-call}
 use Rattle.record.specs.Encoded.{Holds}
+use Rattle.record.proofs.Within.{as-long}
 use Rattle.record.specs.declared.Encoded.{Encoded}
 use Rattle.sheet.specs.Reading.{row, Rows, calls, wrong-at, one-call, rows-from, rows}
 use Rattle.sheet.specs.Found.{slots-of, Sound, RowIs, Fitting, records-in}
@@ -50,14 +51,6 @@ writing-start c csv out f = record {
   size = refl;
   room = rw (f .good) (f .room);
 }
-
--- ---- an encoded record
-module _ {made : Encoded} {b : List ℕ} (h : Holds made b) where
-  pub as-long : made .len ≡ length (take (made .len) (made .bytes))
-  as-long = h .len ∙ ap length (sym (h .text))
-
-  pub in-its-bytes : made .len ≤ length (made .bytes)
-  in-its-bytes = omega (arith, as-long, length-take (made .len) (made .bytes))
 
 -- ---- a record put behind the others
 module _ (out : List ℕ) (used : ℕ) (src ys : List ℕ) (fits : used + length src ≤ length out)

@@ -2,8 +2,9 @@
 use borrow.Author.Needs.{needs}
 use Prim.Native.Nat.{_-_}
 use lib.ListN.{length}
+use Rattle.record.proofs.Within.{as-long, in-its-bytes}
 use Rattle.sheet.proofs.Sizing.{few-arguments, lands, less}
-use Rattle.sheet.proofs.Writing.{Writing, writing-start, as-long, in-its-bytes, used-inside, writing-right, room-behind, used-fits, writing-next, writing-end}
+use Rattle.sheet.proofs.Writing.{Writing, writing-start, used-inside, writing-right, room-behind, used-fits, writing-next, writing-end}
 use Rattle.sheet.proofs.write.Statement.{statement}
 use Rattle.sheet.proofs.write.Tie as tie
 
