@@ -74,7 +74,7 @@ S-lawful =
     again i s v (inr h) = absurd (clash h refl)
 
 -- ---- a history on states
-unfoldable after-all : State → History → State
+unfoldable pub after-all : State → History → State
 after-all st [] = st
 after-all st (b ∷ h) = after-all (state-after st (decode b)) h
 
@@ -97,11 +97,11 @@ carried (try earlier b _ gone) (a, n) =
     let L = after-lawful earlier S S-lawful in
     rw (final-is earlier S S-lawful) (ap (λ r. r .answer) (monitor-encode (after-all S earlier) L b) ∙ a, rw (view-encode (after-all S earlier) L) n)
 
-abbrev EveryOnStates : List Case → Type 0
+abbrev pub EveryOnStates : List Case → Type 0
 EveryOnStates [] = Unit
 EveryOnStates (c ∷ l) = OnStates c × EveryOnStates l
 
-every : (l : List Case) → EveryOnStates l → Every l
+pub every : (l : List Case) → EveryOnStates l → Every l
 every [] h = tt
 every (c ∷ l) h = (carried c (h .0), every l (h .1))
 

@@ -1,8 +1,9 @@
-// The monitor and the sheet's converter for programs in C and Rust to link. `include/yermoitu.h` declares the functions: a slice is
-// there a pointer and the number of its elements. An answer is one number, `packed-answer` or `packed-sheet`.
+// The monitor, the sheet's converter and the presses for programs in C and Rust to link. `include/yermoitu.h` declares the functions:
+// a slice is there a pointer and the number of its elements. An answer is one number: `packed-answer`, `packed-sheet` or a press's error.
 ghost use mathlib.Core.Path.{_≡_};
 ghost use Rattle.mtas.specs.Monitor.{start, monitor};
 ghost use Rattle.sheet.specs.Converted.{converted};
+ghost use Rattle.press.specs.Acted.{result, act};
 ghost use Rattle.yermoitu.specs.Packed.{packed-answer, Returns};
 ghost use Rattle.yermoitu.specs.PackedSheet.{with-told, packed-sheet, Converts};
 use monitor::Answer;
@@ -53,4 +54,20 @@ pub extern "C" fn yermoitu_sheet(csv: &[u8], caller: u8, out: &mut [u8]) -> u64
     ensures { λ r. ⌜ Converts (converted (now (csv .entry)) caller (now (out .entry))) r (now (out .exit)) ⌝ }
 {
     pack_sheet(sheet::convert(csv, caller, out))
+}
+
+// An action on a press for the session issuer/session: lists of any bytes and any length, on a state of any words and any length.
+#[no_mangle]
+pub extern "C" fn yermoitu_press(
+    state: &mut [u16],
+    owners: &[u8],
+    stages: &mut [u8],
+    press: u8,
+    action: u8,
+    issuer: u8,
+    session: u8,
+) -> u64
+    ensures { λ r. ⌜ act (now (state .entry)) (now (owners .entry)) (now (stages .entry)) press action issuer session ≡ result r (now (stages .exit)) (now (state .exit)) ⌝ }
+{
+    press::act(state, owners, stages, press, action, issuer, session) as u64
 }
