@@ -1,4 +1,4 @@
-/* Yermoitu, the press portal's reference monitor and its converter of sheets, for programs in C and C++.
+/* Yermoitu, the press portal's reference monitor, its converter of sheets and the guard of its presses, for programs in C and C++.
 
    `rt staticlib yermoitu` proves them and writes target/staticlib/libyermoitu.a, for x86-64
    Linux. Link it behind your own files. It has no variables of its own, takes no memory from the
@@ -27,6 +27,12 @@
    role,r perm,p trust,j give,u,r grant,p,i,r attach,q,i,r. A field may stand between double quotes.
    There is no heading and no blank line.
 
+   32 presses, numbered 0 to 31, stand on the floor. Their controller keeps two lists of 32 bytes, each
+   press's owner, an issuer 0 to 15, and its stage: 0 idle, 1 loaded, 2 pressing, 3 held. Actions are 0
+   load (0 to 1), 1 start (1 to 2), 2 pause (2 to 3), 3 resume (3 to 2) and 4 empty (1 or 3 to 0). Each
+   needs the owner's permission of the action's number: action 2 on a press of issuer 1 goes ahead for
+   those sessions to which kind 21, asked by issuer 1 for its permission 2, gives verdict 1.
+
    What the caller owes, since nothing can test it:
    - where `words` is YERMOITU_WORDS, `state` points to so many words, aligned as uint16_t is, each
      written before with any value; where it is another number, `state` is not used and may be null;
@@ -34,13 +40,15 @@
      state's words;
    - `csv` points to `csv_bytes` bytes and `out` to `out_bytes`, each written before with any value;
      each may be null where its number is 0; they don't overlap;
-   - nobody else reads or writes the state or `out`, or writes the record or `csv`, until the function
-     returns: calls on one state come one after the other, calls on different states may run at the
-     same time.
+   - `owners` points to `owners_len` bytes and `stages` to `stages_len`, each written before with any
+     value; each may be null where its number is 0; they overlap neither each other nor the state's words;
+   - nobody else reads or writes the state, `out` or `stages`, or writes the record, `csv` or `owners`,
+     until the function returns: calls on one state come one after the other, calls on different states
+     may run at the same time.
 
    What it gets: each function returns, whatever the words, the bytes and the numbers are. It writes to
-   the state's words, or to `out`, and to nothing else that the caller has. It reads no byte outside the
-   words and the record, or outside `csv` and `out`. */
+   the state's words, to `out` or to `stages`, and to nothing else that the caller has. It reads no byte
+   outside the words and the record, outside `csv` and `out`, or outside the words, `owners` and `stages`. */
 #ifndef YERMOITU_H
 #define YERMOITU_H
 
@@ -56,6 +64,12 @@
 /* What yermoitu_sheet returns: the error, and the bytes written, or the line where the error is 15. */
 #define YERMOITU_ERROR(made) ((unsigned)((uint64_t)(made) & 0xffff))
 #define YERMOITU_TOLD(made) ((uint64_t)(made) >> 16)
+
+/* The presses, their stages and the actions on them. */
+#define YERMOITU_PRESSES 32
+
+enum { YERMOITU_IDLE, YERMOITU_LOADED, YERMOITU_PRESSING, YERMOITU_HELD };
+enum { YERMOITU_LOAD, YERMOITU_START, YERMOITU_PAUSE, YERMOITU_RESUME, YERMOITU_EMPTY };
 
 #ifdef __cplusplus
 extern "C" {
@@ -78,6 +92,15 @@ uint64_t yermoitu_call(uint16_t *state, size_t words, const uint8_t *record, siz
    above, its line from 1. 16, tried after 15: the records don't fit in `out`. Where the error isn't 0,
    no byte of `out` is changed. A record has no more bytes than its row. */
 uint64_t yermoitu_sheet(const uint8_t *csv, size_t csv_bytes, uint8_t caller, uint8_t *out, size_t out_bytes);
+
+/* An action on a press, for session `session` of issuer `issuer`. Returns the error, the first that applies:
+   17: a list isn't YERMOITU_PRESSES bytes, `press` is above 31, `action` above 4, any owner in the list above
+   15 or any stage above 3; 18: the desk, asked by the press's owner, refuses (a state that isn't lawful, say)
+   or gives verdict 0; 19: the press's stage is the wrong one for the action. 0: it goes ahead, and the press's
+   own byte of `stages` is its new stage. No other byte of `stages` is changed, none where the error isn't 0,
+   and no word of the state ever. */
+uint64_t yermoitu_press(uint16_t *state, size_t words, const uint8_t *owners, size_t owners_len, uint8_t *stages, size_t stages_len,
+                        uint8_t press, uint8_t action, uint8_t issuer, uint8_t session);
 
 #ifdef __cplusplus
 }

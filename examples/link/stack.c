@@ -1,5 +1,5 @@
-/* How much stack the library needs: plays journals and a circle of attachments and makes records of a sheet on a thread whose stack
-   was painted before, and prints what was painted over, less what a thread that calls nothing paints over.
+/* How much stack the library needs: plays journals, each time with a press acted on, and a circle of attachments, and makes records of
+   a sheet, on a thread whose stack was painted before; prints what was painted over, less what a thread that calls nothing paints over.
    Usage: stack JOURNAL.. */
 #include "yermoitu.h"
 #include <pthread.h>
@@ -17,6 +17,17 @@ struct journal {
 static struct journal *journals;
 static int count;
 static uint16_t state[YERMOITU_WORDS];
+
+/* Every estate's session on a press of every estate. */
+static void press(void)
+{
+    uint8_t owners[YERMOITU_PRESSES], stages[YERMOITU_PRESSES] = {0};
+    for (uint8_t n = 0; n < YERMOITU_PRESSES; n++)
+        owners[n] = n / 2;
+    for (uint8_t n = 0; n < YERMOITU_PRESSES; n++)
+        for (uint8_t issuer = 0; issuer < 16; issuer++)
+            yermoitu_press(state, YERMOITU_WORDS, owners, sizeof owners, stages, sizeof stages, n, YERMOITU_LOAD, issuer, 4);
+}
 
 static void play(const struct journal *j)
 {
@@ -55,8 +66,10 @@ static void sheet(void)
 
 static void *plays(void *nothing)
 {
-    for (int n = 0; n < count; n++)
+    for (int n = 0; n < count; n++) {
         play(&journals[n]);
+        press();
+    }
     circle();
     sheet();
     return nothing;
