@@ -222,6 +222,6 @@ fn has_senior(sets: &Sets, role: Role) -> bool {
     attachments.any(|attachment| attachment.junior == role)
 }
 
-fn open_session(random: &mut Random, sets: &Sets) -> Option<SessionName> {
+pub fn open_session(random: &mut Random, sets: &Sets) -> Option<SessionName> {
     random.member(&sets.sessions.keys().copied().collect())
 }

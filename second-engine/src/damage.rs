@@ -1,7 +1,7 @@
 //! States for refusals 1 and 2: the present one or another, with changes that no call makes.
 
 use crate::lawful_states::lawful_sets;
-use crate::places::{session_word, CLOSED, WORDS};
+use crate::places::{session_word, trust_word, CLOSED, WORDS};
 use crate::random::Random;
 use crate::sets::{own, write_started, Attachment, Grant, Held, Role, Sets, Trust};
 use crate::ways::{any_way, Way};
@@ -90,6 +90,13 @@ pub fn any_damage(random: &mut Random, world: &World, present: &[u16]) -> Damage
             Damage::new(Base::Present, present, &words, length)
         }
     }
+}
+
+/// The issuer trusts nobody but itself, and what needed its trust stays.
+pub fn trust_taken(present: &[u16], issuer: usize) -> Damage {
+    let mut words = present.to_vec();
+    words[trust_word(issuer)] &= 1 << issuer;
+    Damage::new(Base::Present, present, &words, WORDS)
 }
 
 /// Changes something in the words, or gives another length for them.

@@ -1,9 +1,9 @@
 //! A sheet and an output buffer, lent to a converter between guards.
 
-use crate::library::{guard_byte, yermoitu_sheet, GUARD};
+use crate::guarded::Guarded;
+use crate::library::yermoitu_sheet;
 use crate::patience::came_back;
 use std::fmt;
-use std::ptr;
 
 /// Sheets with more bytes are not shortened, and only their begin and their end are shown.
 pub const LONG: usize = 100_000;
@@ -41,24 +41,20 @@ pub fn library(csv: *const u8, bytes: usize, caller: u8, out: *mut u8, room: usi
 impl LentSheet {
     pub fn convert(&self, converter: &Converter) -> GivenSheet {
         let LentSheet { csv, out, .. } = self;
-        let mut sheet = Guarded::new(csv, &self.behind);
-        let mut buffer = Guarded::new(out, &[]);
-        let written = sheet.bytes.clone();
-        let before = buffer.bytes.clone();
+        // Each lies at an even or an odd place, by its length.
+        let mut sheet = Guarded::new(csv, &self.behind, csv.len() / 2 % 2 == 1);
+        let mut buffer = Guarded::new(out, &[], out.len() / 2 % 2 == 1);
 
         let lent_csv = sheet.lent(self.null);
         let lent_out = buffer.lent(self.null);
         let packed = converter(lent_csv, csv.len(), self.caller, lent_out, out.len());
         came_back();
 
-        let end = buffer.place + out.len();
         let overwritten = if sheet.inside() != csv {
             Some("the sheet")
-        } else if sheet.bytes != written {
+        } else if sheet.written_beside() {
             Some("bytes beside the sheet")
-        } else if buffer.bytes[..buffer.place] != before[..buffer.place]
-            || buffer.bytes[end..] != before[end..]
-        {
+        } else if buffer.written_beside() {
             Some("bytes beside the output buffer")
         } else {
             None
@@ -92,40 +88,5 @@ impl fmt::Display for LentSheet {
             write!(text, ", null lent for no bytes")?;
         }
         write!(text, ")")
-    }
-}
-
-/// Bytes between guards.
-struct Guarded {
-    bytes: Vec<u8>,
-    place: usize,
-    length: usize,
-}
-
-impl Guarded {
-    /// The content lies at an even or an odd place, by its length.
-    fn new(content: &[u8], behind: &[u8]) -> Guarded {
-        let place = GUARD + content.len() / 2 % 2;
-        let length = content.len();
-        let mut bytes: Vec<u8> = (0..place).map(guard_byte).collect();
-        bytes.extend(content);
-        bytes.extend(behind);
-        bytes.extend((0..GUARD).map(guard_byte));
-        Guarded {
-            bytes,
-            place,
-            length,
-        }
-    }
-
-    fn lent(&mut self, null: bool) -> *mut u8 {
-        if null && self.length == 0 {
-            return ptr::null_mut();
-        }
-        self.bytes.as_mut_ptr().wrapping_add(self.place)
-    }
-
-    fn inside(&self) -> &[u8] {
-        &self.bytes[self.place..self.place + self.length]
     }
 }

@@ -1,5 +1,6 @@
 //! The library under test. Words and records are lent to it between guards, which it must
-//! leave as they were; sheets and output buffers too, in `lent_sheet`.
+//! leave as they were; sheets and output buffers too, in `lent_sheet`, and the lists of owners
+//! and stages, in `lent_press`.
 
 use crate::patience::came_back;
 
@@ -13,6 +14,18 @@ extern "C" {
         caller: u8,
         out: *mut u8,
         out_bytes: usize,
+    ) -> u64;
+    pub fn yermoitu_press(
+        state: *mut u16,
+        words: usize,
+        owners: *const u8,
+        owners_len: usize,
+        stages: *mut u8,
+        stages_len: usize,
+        press: u8,
+        action: u8,
+        issuer: u8,
+        session: u8,
     ) -> u64;
 }
 
@@ -52,8 +65,13 @@ impl Lent {
         &self.cells[GUARD..GUARD + self.words]
     }
 
+    /// Where the words begin.
+    pub fn lent(&mut self) -> *mut u16 {
+        self.cells.as_mut_ptr().wrapping_add(GUARD)
+    }
+
     pub fn start(&mut self) -> Given {
-        let lent = self.cells.as_mut_ptr().wrapping_add(GUARD);
+        let lent = self.lent();
         // The pointer has `words` words behind it that nobody else uses.
         let packed = unsafe { yermoitu_start(lent, self.words) };
         came_back();
@@ -71,7 +89,7 @@ impl Lent {
         bytes.extend(record);
         bytes.extend((0..GUARD).map(guard_byte));
 
-        let lent = self.cells.as_mut_ptr().wrapping_add(GUARD);
+        let lent = self.lent();
         let held = bytes.as_mut_ptr().wrapping_add(before);
         // Both pointers have their lengths behind them, and nobody else uses them meanwhile.
         let packed = unsafe { yermoitu_call(lent, self.words, held, record.len()) };
@@ -91,7 +109,8 @@ impl Lent {
         }
     }
 
-    fn overwritten(&self) -> Option<&'static str> {
+    /// Whether a guard was written.
+    pub fn overwritten(&self) -> Option<&'static str> {
         let before = &self.cells[..GUARD];
         let after = &self.cells[GUARD + self.words..];
         let mut cells = before.iter().chain(after).enumerate();

@@ -1,31 +1,51 @@
-//! Random journals, pairs of histories and sheets on `libyermoitu.a`, against a plain second
-//! engine and a plain converter that were written from the paper alone.
+//! Random journals, pairs of histories, sheets and presses on `libyermoitu.a`, against a plain
+//! second engine, a plain converter and a plain press that were written from the paper alone.
 //!
-//! `cargo run --release` plays 300,000 calls and 300 pairs of histories and converts 150,000
-//! sheets; `cargo test` tries the engine itself on the paper's cases, and the converter on the
-//! standard's rules. `build.rs` says where the library is looked for.
+//! `cargo run --release` plays 300,000 calls and 300 pairs of histories, converts 150,000 sheets
+//! and asks 100,000 times at presses; `cargo test` tries the engine itself on the paper's cases,
+//! the converter on the standard's rules, and the press on its card's. `build.rs` says where the
+//! library is looked for.
 //!
 //! The engine: `places`, `sets`, `lawful`, `record`, `refusals`, `cascades`, `engine`. The
 //! journals: `worlds`, `ways`, `records`, `aims`, `lawful_states`, `damage`, `journals`. Demand
 //! 3: `histories`, `pairs`. The converter: `sheet`. The sheets: `sheet_rows`, `sheet_spots`,
-//! `sheet_damage`, `sheet_rough`, `sheet_cases`, `sheets`.
+//! `sheet_damage`, `sheet_rough`, `sheet_cases`, `sheets`. The press: `press`. The presses:
+//! `press_floor`, `press_spoils`, `press_histories`, `chains`, `presses`, `press_report`.
 
 mod aims;
 mod cascades;
 mod cases;
+mod chains;
 mod counts;
 mod damage;
 mod engine;
+mod guarded;
 mod histories;
 mod journals;
 mod lawful;
 mod lawful_states;
+mod lent_press;
 mod lent_sheet;
 mod library;
 mod pair_counts;
 mod pairs;
 mod patience;
 mod places;
+mod press;
+#[cfg(test)]
+mod press_case_tests;
+mod press_counts;
+mod press_floor;
+mod press_histories;
+#[cfg(test)]
+mod press_misread;
+mod press_report;
+mod press_spoils;
+#[cfg(test)]
+mod press_tests;
+#[cfg(test)]
+mod press_wrong;
+mod presses;
 mod random;
 mod reach_counts;
 #[cfg(test)]
@@ -61,17 +81,19 @@ mod worlds;
 
 use counts::Counts;
 use pair_counts::PairCounts;
+use press_counts::PressCounts;
 use sheet_counts::SheetCounts;
 use std::env;
 use std::process::ExitCode;
 
-const USAGE: &str =
-    "second-engine [--calls N] [--pairs N] [--sheets N] [--seed N] [--patience SECONDS] [--trace]";
+const USAGE: &str = "second-engine [--calls N] [--pairs N] [--sheets N] [--presses N] [--seed N] \
+     [--patience SECONDS] [--trace]";
 
 struct Options {
     calls: u64,
     pairs: u64,
     sheets: u64,
+    presses: u64,
     seed: u64,
     /// The seconds in which some call must come back.
     patience: u64,
@@ -84,6 +106,7 @@ fn options() -> Option<Options> {
         calls: 300_000,
         pairs: 300,
         sheets: 150_000,
+        presses: 100_000,
         seed: 20_260_101,
         patience: 60,
         trace: false,
@@ -94,6 +117,7 @@ fn options() -> Option<Options> {
             "--calls" => options.calls = arguments.next()?.parse().ok()?,
             "--pairs" => options.pairs = arguments.next()?.parse().ok()?,
             "--sheets" => options.sheets = arguments.next()?.parse().ok()?,
+            "--presses" => options.presses = arguments.next()?.parse().ok()?,
             "--seed" => options.seed = arguments.next()?.parse().ok()?,
             "--patience" => options.patience = arguments.next()?.parse().ok()?,
             "--trace" => options.trace = true,
@@ -112,6 +136,7 @@ fn main() -> ExitCode {
         calls,
         pairs,
         sheets,
+        presses,
         seed,
         patience,
         trace,
@@ -138,6 +163,14 @@ fn main() -> ExitCode {
     if sheets > 0 {
         let mut counts = SheetCounts::default();
         if !sheets::play_sheets(seed, sheets, trace, &mut counts) {
+            return ExitCode::FAILURE;
+        }
+        counts.print();
+        missing.extend(counts.missing());
+    }
+    if presses > 0 {
+        let mut counts = PressCounts::default();
+        if !presses::play_presses(seed, presses, trace, &mut counts) {
             return ExitCode::FAILURE;
         }
         counts.print();

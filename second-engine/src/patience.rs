@@ -5,7 +5,8 @@ use std::sync::atomic::{AtomicU64, Ordering::Relaxed};
 use std::thread;
 use std::time::Duration;
 
-/// How many calls, starts and sheets came back, those played again for a shorter list among them.
+/// How many calls, starts, sheets and presses came back, those played again for a shorter list
+/// among them.
 static CAME_BACK: AtomicU64 = AtomicU64::new(0);
 
 pub fn came_back() {
@@ -21,7 +22,7 @@ pub fn watch(seconds: u64) {
             let now = CAME_BACK.load(Relaxed);
             if now == before {
                 println!(
-                    "NO END: {now} calls, starts and sheets came back, and the next one did not"
+                    "NO END: {now} calls, starts, sheets and presses came back, and the next one did not"
                 );
                 process::exit(1);
             }

@@ -110,6 +110,11 @@ impl SideBySide {
         &self.desk
     }
 
+    /// The words lent to the library, and the desk.
+    pub fn parts(&mut self) -> (&mut Lent, &mut Desk) {
+        (&mut self.lent, &mut self.desk)
+    }
+
     /// The words as the library left them.
     pub fn library_words(&self) -> &[u16] {
         self.lent.words()

@@ -1,5 +1,6 @@
 //! The few names that a journal uses, and how often it makes each call.
 
+use crate::press::ACTIONS;
 use crate::random::Random;
 use crate::record::KINDS;
 
@@ -79,6 +80,16 @@ impl World {
             deep: random.percent(50),
             lean: random.percent(50),
         }
+    }
+
+    /// A world where permissions are for the actions at presses, and now and then one more.
+    pub fn with_presses(random: &mut Random) -> World {
+        let mut world = World::new(random);
+        world.permissions = (0..ACTIONS).collect();
+        if random.percent(30) {
+            world.permissions.push(random.between(ACTIONS, 15));
+        }
+        world
     }
 
     /// Now and then the calls become more building or more clearing.
