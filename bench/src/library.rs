@@ -10,6 +10,18 @@ extern "C" {
         out: *mut u8,
         out_bytes: usize,
     ) -> u64;
+    fn yermoitu_press(
+        state: *mut u16,
+        words: usize,
+        owners: *const u8,
+        owners_len: usize,
+        stages: *mut u8,
+        stages_len: usize,
+        press: u8,
+        action: u8,
+        issuer: u8,
+        session: u8,
+    ) -> u64;
 }
 
 /// Starting: the answer is the refusal, and 65536 times the verdict.
@@ -35,4 +47,31 @@ pub fn call(state: &mut [u16], record: &[u8]) -> u64 {
 pub fn sheet(csv: &[u8], caller: u8, out: &mut [u8]) -> u64 {
     // SAFETY: the sheet is only read, and the two slices don't overlap.
     unsafe { yermoitu_sheet(csv.as_ptr(), csv.len(), caller, out.as_mut_ptr(), out.len()) }
+}
+
+/// The question of a kind 21 with permission 0 to 4, put by an action on a press of its caller's: the answer to the record itself.
+pub fn press(state: &mut [u16], record: &[u8]) -> u64 {
+    const RIGHT: [u8; 5] = [0, 1, 2, 3, 1];
+    let &[_, _, _, _, owner, action, issuer, session] = record else {
+        panic!("no kind 21: {record:?}")
+    };
+    let owners = [owner; 32];
+    let mut stages = [RIGHT[usize::from(action)]; 32];
+    // SAFETY: the owners are only read, and the slices don't overlap.
+    let error = unsafe {
+        yermoitu_press(
+            state.as_mut_ptr(),
+            state.len(),
+            owners.as_ptr(),
+            owners.len(),
+            stages.as_mut_ptr(),
+            stages.len(),
+            7,
+            action,
+            issuer,
+            session,
+        )
+    };
+    assert!(error == 0 || error == 18, "error {error} of {record:?}");
+    65536 * u64::from(error == 0)
 }

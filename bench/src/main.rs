@@ -61,17 +61,45 @@ fn main() {
             cases.iter().map(task).collect()
         })
         .collect();
+    let mut presses: Vec<Task> = cases.iter().map(press_task).collect();
     let lesser = &cases[LESSER];
     let mut detachments = Task::new(&lesser.detachments, ENGINES, &lesser.state);
     let mut tasks: Vec<&mut Task> = tables.iter_mut().flatten().collect();
+    tasks.extend(&mut presses);
     tasks.push(&mut detachments);
     measure(&mut tasks, ROUNDS);
     for ((operation, _), table) in operations.iter().zip(&tables) {
         print_table(operation, &cases, table);
     }
+    print_presses(&cases, &presses);
     print_detachments(lesser, &detachments);
     journal();
     print_sheets(&sheets);
+}
+
+/// The questions with verdict 1 that an action may put, on a press and by themselves.
+fn press_task(case: &Case) -> Task {
+    let questions = case.allowed.iter().filter(|record| record[5] <= 4);
+    let questions: Vec<Record> = questions.cloned().collect();
+    Task::new(&questions, [library::press, library::call], &case.state)
+}
+
+/// A line for each state: what an action on a press costs beside the kind 21 that it puts.
+fn print_presses(cases: &[Case], tasks: &[Task]) {
+    println!();
+    println!(
+        "{:<24}{:>14}{:>12}{:>12}",
+        "action on a press", "press/call", "press ns", "call ns"
+    );
+    for (case, task) in cases.iter().zip(tasks) {
+        println!(
+            "{:<24}{:>14.2}{:>12.0}{:>12.0}",
+            case.name,
+            task.ratio(),
+            task.time(0),
+            task.time(1)
+        );
+    }
 }
 
 /// A line for each state: ratios first, then nanoseconds of a call.
