@@ -10,14 +10,14 @@ use lib.Dec.{eqb}
 use lib.ListN.{length, getD, set, take}
 use borrow.Author.Tests.{eq-eqb, le-ltb}
 use Rattle.bits.specs.Below.{any-below}
-use Rattle.bits.proofs.Booleans.{clash}
 use Rattle.mtas.specs.Monitor.{monitor}
 use Rattle.mtas.specs.Record.{record-of, encode-call}
 use Rattle.monitor.specs.Contract.{Gives}
 use Rattle.monitor.specs.declared.Answer as desk
 use Rattle.record.specs.Encoded.{Holds}
 use Rattle.record.specs.declared.Encoded.{Encoded}
-use Rattle.press.specs.Stages.{idle, loaded, pressing, held, load, start, pause, resume, empty, to, wrong-stage, next-in, next-stage}
+use Rattle.press.specs.Stages as stage
+use Rattle.press.specs.Stages.{idle, loaded, held, empty, to, wrong-stage, next-in, next-stage}
 use Rattle.press.specs.Acted.{some-above, misfit, question, turned-away, result, act}
 use Rattle.press.specs.Errors.{Misfit, owner-above-15}
 use Rattle.press.specs.Laws.{Fits}
@@ -25,7 +25,7 @@ use Rattle.press.specs.Contract.{next-of, to-where}
 use Rattle.press.specs.declared.Next.{Next}
 use Rattle.press.specs.declared.Next.the-variants.{To, WrongStage}
 use Rattle.press.proofs.Table.{unled, known}
-use Rattle.press.proofs.Misfits.{above-elim, misfit-complete, fitting}
+use Rattle.press.proofs.Misfits.{above-elim, misfit-complete, in-order, fitting}
 use Rattle.press.proofs.Asking.{answered, words-left}
 use Rattle.press.proofs.Errors.{ends}
 
@@ -47,34 +47,18 @@ leads t e = rw e
 pub leads-nowhere : {right : Bool} (t : ℕ) → right ≡ false → wrong-stage ≡ to-where right t
 leads-nowhere t e = rw e
 
-module _ (a s : ℕ) (r : Next) where
-  -- what the line of an action gives
-  abbrev Line : ℕ → Bool → ℕ → Type 0
-  Line action right t = a ≡ action → next-of r ≡ to-where right t → next-of r ≡ next-stage a s
+-- m is what the line of the action a gives
+pub by-line : {m n : stage.Next} {a b : ℕ} (s : ℕ) → b ≡ a → m ≡ n → n ≡ next-stage a s → m ≡ next-stage b s
+by-line s e h q = rw e (h ∙ q)
 
-  pub at-load : Line load (eqb s idle) loaded
-  unfolding next-in
-  at-load e h = rw e h
-
-  pub at-start : Line start (eqb s loaded) pressing
-  unfolding next-in
-  at-start e h = rw e h
-
-  pub at-pause : Line pause (eqb s pressing) held
-  unfolding next-in
-  at-pause e h = rw e h
-
-  pub at-resume : Line resume (eqb s held) pressing
-  unfolding next-in
-  at-resume e h = rw e h
-
-  pub at-empty : Line empty (eqb s loaded || eqb s held) idle
-  unfolding next-in
-  at-empty e h = rw e (h ∙ go (eqb s loaded))
-    where
-      go : (b : Bool) → to-where (b || eqb s held) idle ≡ elim b [ true ↦ to idle | false ↦ to-where (eqb s held) idle ]
-      go true = refl
-      go false = refl
+-- empty has two right stages
+pub either : (s : ℕ) → to-where (eqb s loaded || eqb s held) idle ≡ next-stage empty s
+unfolding next-in
+either s = go (eqb s loaded)
+  where
+    go : (b : Bool) → to-where (b || eqb s held) idle ≡ elim b [ true ↦ to idle | false ↦ to-where (eqb s held) idle ]
+    go true = refl
+    go false = refl
 
 pub no-action : (a s : ℕ) → a ≢ 0 → a ≢ 1 → a ≢ 2 → a ≢ 3 → a ≢ 4 → wrong-stage ≡ next-stage a s
 no-action a s n₀ n₁ n₂ n₃ n₄ = sym (unled a s (λ t l. omega (arith, known l)))
@@ -97,11 +81,8 @@ module _ (owners stages : List ℕ) (press action : ℕ) where
       alone false = refl
 
   module _ {m : Bool} (e : m ≡ misfit owners stages press action) (h : m ≡ false) where
-    fits : Misfit owners stages press action → ⊥
-    fits x = clash (misfit-complete owners stages press action x) (sym e ∙ h)
-
     its : Fits owners stages press action
-    its = fitting owners stages press action fits
+    its = fitting owners stages press action (in-order owners stages press action (sym e ∙ h))
 
     pub has-owner : press < length owners
     has-owner = omega (arith, its .owners-32, its .a-press)

@@ -11,7 +11,7 @@ use Rattle.press.specs.Stages.{Next, to, wrong-stage, next-stage}
 use Rattle.press.specs.Acted.{Result, result, misfit, turned-away, moved, acted, act}
 use Rattle.press.specs.Errors.{Leads, Misfit, TurnedAway, Given, misfits, is-turned-away, at-wrong-stage, goes-ahead, Errors}
 use Rattle.press.proofs.Table.{next-leads, nowhere}
-use Rattle.press.proofs.Misfits.{misfit-complete, misfit-sound}
+use Rattle.press.proofs.Misfits.{misfit-sound, in-order}
 use Rattle.press.proofs.Asking.{answered, away-complete, away-sound}
 
 module _ (ws owners stages : List ℕ) (press action i s : ℕ) where
@@ -40,9 +40,6 @@ module _ (ws owners stages : List ℕ) (press action i s : ℕ) where
   ends {m = false} {away = true} e d h = rw (e, d, acted)
   ends {m = false} {away = false} e d h = rw (e, d, h, acted)
 
-  in-order : misfit owners stages press action ≡ false → InOrder
-  in-order e m = clash (misfit-complete owners stages press action m) e
-
   welcome : turned-away (answered ws owner action i s) ≡ false → Welcome
   welcome d t = clash (away-complete ws owner action i s t) d
 
@@ -65,9 +62,9 @@ module _ (ws owners stages : List ℕ) (press action i s : ℕ) where
       go : (m : Bool) → misfit owners stages press action ≡ m → (away : Bool) → turned-away (answered ws owner action i s) ≡ away
           → (next : Next) → next-stage action (getD stages press 0) ≡ next → Ended
       go true e away d next h = stopped 17 (λ z. omega arith) (misfits (misfit-sound owners stages press action e)) (ends e d h)
-      go false e true d next h = stopped 18 (λ z. omega arith) (is-turned-away (in-order e) (away-sound ws owner action i s d)) (ends e d h)
-      go false e false d wrong-stage h = stopped 19 (λ z. omega arith) (at-wrong-stage (in-order e) (welcome d) (nowhere action _ h)) (ends e d h)
-      go false e false d (to t) h = ahead (record { in-its-order = in-order e; its-welcome = welcome d; next = t; leads = next-leads action _ t h; left = ends e d h })
+      go false e true d next h = stopped 18 (λ z. omega arith) (is-turned-away (in-order owners stages press action e) (away-sound ws owner action i s d)) (ends e d h)
+      go false e false d wrong-stage h = stopped 19 (λ z. omega arith) (at-wrong-stage (in-order owners stages press action e) (welcome d) (nowhere action _ h)) (ends e d h)
+      go false e false d (to t) h = ahead (record { in-its-order = in-order owners stages press action e; its-welcome = welcome d; next = t; leads = next-leads action _ t h; left = ends e d h })
 
   went : Went → Given ws owners stages press action i s 0
   went w = goes-ahead (w .in-its-order) (w .its-welcome) (λ x. x (w .next) (w .leads))

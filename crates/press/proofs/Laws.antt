@@ -2,10 +2,11 @@
 use mathlib.Core.Path.{_≡_, refl, ap, sym, subst, _∙_}
 use mathlib.Core.Logic.{_↔_, _≢_}
 use mathlib.Core.List.{List, [], _∷_}
-use Prim.Native.Nat.{ℕ, _<_}
+use mathlib.Core.Option.{some}
+use Prim.Native.Nat.{ℕ, suc, _<_}
 use native.Mathlib.Decide.{ℕ-discrete}
 use native.Mathlib.Omega.{arith}
-use lib.ListN.{length, getD, length-set}
+use lib.ListN.{length, getD, length-set, getElem?}
 use lib.Seq.{getD-set-same, getD-set-other}
 use Rattle.mtas.specs.Chain.{Chain}
 use Rattle.mtas.specs.Layout.{view}
@@ -13,7 +14,7 @@ use Rattle.mtas.proofs.Chain.{chains}
 use Rattle.press.specs.Acted.{act}
 use Rattle.press.specs.Errors.{Given, misfits, is-turned-away, at-wrong-stage, goes-ahead}
 use Rattle.press.specs.Floor.{Request, floor}
-use Rattle.press.specs.Laws.{Fits, MayGoAhead, OnlyThatPress, NoChain, PressLaws}
+use Rattle.press.specs.Laws.{Fits, MayGoAhead, OnlyThatPress, PressLaws}
 use Rattle.press.proofs.Misfits.{fitting, no-misfit}
 use Rattle.press.proofs.Asking.{yes-iff}
 use Rattle.press.proofs.Errors.{Went, Ended, ahead, stopped, ended, errors}
@@ -92,13 +93,16 @@ module _ (ws owners stages : List ℕ) (press action i s : ℕ) where
       go (yes z) (yes p) = absurd (n p (subst (λ x. Chain (view ws) i (getD owners x 0)) p (chained z)))
       go (yes z) (no p) = only-that (zero-went z) .others k (λ q. p (sym q))
 
-still : (ws owners stages : List ℕ) (k : ℕ) (l : List Request) → NoChain ws owners k l → getD ((floor ws owners stages l) .stages) k 0 ≡ getD stages k 0
+still : (ws owners stages : List ℕ) (k : ℕ) (l : List Request)
+    → ((n : ℕ) (q : Request) → getElem? l n ≡ some q → q .press ≡ k → Chain (view ws) (q .issuer) (getD owners k 0) → ⊥)
+    → getD ((floor ws owners stages l) .stages) k 0 ≡ getD stages k 0
 unfolding floor
-still ws owners stages k [] n = refl
-still ws owners stages k (q ∷ l) (n, m) =
+still ws owners stages k [] none = refl
+still ws owners stages k (q ∷ l) none =
     let r = act ws owners stages (q .press) (q .action) (q .issuer) (q .session) in
     let w : r .words ≡ ws = words-kept ws owners stages (q .press) (q .action) (q .issuer) (q .session) in
-    still (r .words) owners (r .stages) k l (rw w m) ∙ byte-kept ws owners stages (q .press) (q .action) (q .issuer) (q .session) k n
+    still (r .words) owners (r .stages) k l (λ n. rw w (none (suc n)))
+    ∙ byte-kept ws owners stages (q .press) (q .action) (q .issuer) (q .session) k (none 0 q refl)
 
 pub press-laws : PressLaws
 press-laws = record {

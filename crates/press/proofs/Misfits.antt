@@ -71,6 +71,9 @@ module _ (owners stages : List ℕ) (press action : ℕ) where
   unfolding misfit
   misfit-sound h = cause (some-elim tests h)
 
+  pub in-order : misfit owners stages press action ≡ false → Misfit owners stages press action → ⊥
+  in-order e m = clash (misfit-complete m) e
+
 -- ---- no cause of 17 is what fits
 pub fitting : (owners stages : List ℕ) (press action : ℕ) → (Misfit owners stages press action → ⊥) → Fits owners stages press action
 fitting owners stages press action f = record {

@@ -1,9 +1,10 @@
 -- What an action needs, what it changes, and whom a press obeys (Card 6): on any words and any lists.
 use mathlib.Core.Path.{_≡_}
 use mathlib.Core.Logic.{_↔_, _≢_}
-use mathlib.Core.List.{List, [], _∷_}
+use mathlib.Core.List.{List}
+use mathlib.Core.Option.{some}
 use Prim.Native.Nat.{ℕ, _<_}
-use lib.ListN.{length, getD}
+use lib.ListN.{length, getD, getElem?}
 use Rattle.mtas.specs.Decision.{MayUsePermission}
 use Rattle.mtas.specs.Chain.{Chain}
 use Rattle.mtas.specs.Layout.{view}
@@ -35,11 +36,6 @@ pub record OnlyThatPress (press action : ℕ) (before after : List ℕ) : Type 0
   pub led : Leads action (getD before press 0) (getD after press 0)
   pub others : (k : ℕ) → k ≢ press → getD after k 0 ≡ getD before k 0
 
--- those of the requests that name the press are of issuers from which no chain of trust leads to its owner
-abbrev pub NoChain : List ℕ → List ℕ → ℕ → List Request → Type 0
-NoChain ws owners k [] = Unit
-NoChain ws owners k (q ∷ l) = (q .press ≡ k → Chain (view ws) (q .issuer) (getD owners k 0) → ⊥) × NoChain ws owners k l
-
 pub record PressLaws : Type 0 where
   -- 17 is given where these don't fit, whatever the desk would say
   pub fits-iff : (ws owners stages : List ℕ) (press action i s : ℕ)
@@ -55,6 +51,7 @@ pub record PressLaws : Type 0 where
   -- 'An estate from which no chain of trust leads to the owner can't move the press, however the state came about'
   pub no-chain : (ws owners stages : List ℕ) (press action i s : ℕ) → (Chain (view ws) i (getD owners press 0) → ⊥)
       → ((act ws owners stages press action i s) .error ≢ 0) × ((act ws owners stages press action i s) .stages ≡ stages)
-  -- however often it is tried, and whatever is asked of other presses in between
-  pub stands-still : (ws owners stages : List ℕ) (k : ℕ) (l : List Request) → NoChain ws owners k l
+  -- however often it is tried, and whatever is asked of other presses in between: of a list, all requests that name press k are such an estate's
+  pub stands-still : (ws owners stages : List ℕ) (k : ℕ) (l : List Request)
+      → ((n : ℕ) (q : Request) → getElem? l n ≡ some q → q .press ≡ k → Chain (view ws) (q .issuer) (getD owners k 0) → ⊥)
       → getD ((floor ws owners stages l) .stages) k 0 ≡ getD stages k 0

@@ -5,7 +5,6 @@ use mathlib.Core.Bool.{true, false, decide}
 use Prim.Native.Nat.{ℕ, zero, suc, _+_, _*_, _<_}
 use native.Mathlib.Decide.{ℕ-discrete}
 use native.Mathlib.Omega.{arith}
-use borrow.Author.Tests.{eq-eqb}
 use lib.ListN.{replicate, replicate-append-replicate}
 use Rattle.bits.specs.Below.{any-below, find-below}
 use Rattle.bits.proofs.Booleans.{clash}
@@ -28,9 +27,8 @@ use Rattle.press_house.proofs.Cases.{after-all, EveryOnStates, every}
 use Rattle.press.specs.Stages.{idle, loaded, pressing, held, load, start, pause, resume, empty, next-in}
 use Rattle.press.specs.Acted.{result, misfit, question, acted, act}
 use Rattle.press.specs.Floor.{Request, Outcome, floor}
-use Rattle.press.specs.Laws.{NoChain}
 use Rattle.press.proofs.Laws.{press-laws}
-use Rattle.press_floor.specs.Cycles.{granting, granted-words, withdrawing, withdrawn-words, owners, all-idle, at, on-7, cycle, times, on-7-by-0, tries, Tried, Cycles}
+use Rattle.press_floor.specs.Cycles.{granting, granted-words, withdrawing, withdrawn-words, owners, all-idle, at, on-7, cycle, times, tries, Tried, Cycles}
 
 -- ---- the desk, asked by 1 for each action of 0/4
 abbrev asked : History → Answer → List Fact → List Case
@@ -146,15 +144,11 @@ no-way c = let e = chains .chain-iff (view withdrawn-words) 0 1 .0 c (λ j. j �
             let b = view-numbered withdrawn-words (trusts 0 (suc k)) h in
             absurd (clash h (not-trusted (view withdrawn-words) 15 (every (asked withdrawing (accepts 0) (in-others 15)) says-no .0 .1) k (omega (arith, b .1 .0))))
 
-by-0 : (l : List Request) → NoChain withdrawn-words owners 7 (on-7-by-0 l)
-by-0 [] = tt
-by-0 (q ∷ l) = (λ e c. no-way (rw (eq-eqb (q .press) 7 e) at c), by-0 l)
-
 pub cycles : Cycles
 cycles = record {
   all-tried = all-tried;
   run = again granted-words all-idle cycle 6 0 one-cycle;
   stand-still = again withdrawn-words all-idle cycle 6 18 turned-down;
   left-pressing = again withdrawn-words (at pressing) (on-7 pause ∷ []) 1 18 not-paused;
-  never-again = λ stages l. press-laws .stands-still withdrawn-words owners stages 7 (on-7-by-0 l) (by-0 l);
+  never-again = λ stages l by-0. press-laws .stands-still withdrawn-words owners stages 7 l (λ n q e p c. no-way (subst (λ x. Chain (view withdrawn-words) x 1) (by-0 n q e p) c));
 }

@@ -1,10 +1,9 @@
 -- The forty-one cycles, as a case: a neighbour's press runs while its owner is trusted, and stands still when trust has ended.
 use mathlib.Core.Path.{_≡_}
-use mathlib.Core.Bool.{true, false}
 use mathlib.Core.List.{List, [], _∷_, _++_}
+use mathlib.Core.Option.{some}
 use Prim.Native.Nat.{ℕ, zero, suc, _*_}
-use lib.Dec.{eqb}
-use lib.ListN.{replicate, getD, set}
+use lib.ListN.{replicate, getD, set, getElem?}
 use Rattle.mtas.specs.Layout.{encode}
 use Rattle.mtas.specs.Record.{record-of}
 use Rattle.mtas.specs.Histories.{History, final}
@@ -52,11 +51,6 @@ unfoldable pub times : ℕ → List Request → List Request
 times zero l = []
 times (suc n) l = l ++ times n l
 
--- requests in which those on press 7 are for sessions of 0, and the others for anybody's
-abbrev pub on-7-by-0 : List Request → List Request
-on-7-by-0 [] = []
-on-7-by-0 (q ∷ l) = record { press = q .press; action = q .action; issuer = elim (eqb (q .press) 7) [ true ↦ 0 | false ↦ q .issuer ]; session = q .session } ∷ on-7-by-0 l
-
 -- an action at a stage of press 7, the error, and the stage then
 pub data Try : Type 0 where
   try : ℕ → ℕ → ℕ → ℕ → Try
@@ -83,4 +77,5 @@ pub record Cycles : Type 0 where
   -- a press that was pressing when trust ended stays so, however often it is told to pause
   pub left-pressing : (n : ℕ) → floor withdrawn-words owners (at pressing) (times n (on-7 pause ∷ [])) ≡ record { errors = replicate (1 * n) 18; stages = at pressing }
   -- whatever 0 asks of press 7, at any stages, and whoever asks what of the others
-  pub never-again : (stages : List ℕ) (l : List Request) → getD ((floor withdrawn-words owners stages (on-7-by-0 l)) .stages) 7 0 ≡ getD stages 7 0
+  pub never-again : (stages : List ℕ) (l : List Request) → ((n : ℕ) (q : Request) → getElem? l n ≡ some q → q .press ≡ 7 → q .issuer ≡ 0)
+      → getD ((floor withdrawn-words owners stages l) .stages) 7 0 ≡ getD stages 7 0
