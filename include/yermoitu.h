@@ -11,10 +11,14 @@
    with nothing to report hands in a record of no bytes, its sign of life: accepted with verdict 0,
    and no word is changed.
 
-   An answer is one number: the refusal in bits 0 to 15, the verdict in bits 16 to 31, and 0 above.
-   The refusal is 0 where the call was accepted, else the number of the first cause, 1 to 14; they
-   are tried from 1 upwards, but 14 between 10 and 11. The verdict is 1 where kind 21 was accepted
-   and the session may use the permission, else 0.
+   An answer is four numbers in one: the refusal in bits 0 to 15, the verdict in bits 16 to 31, an
+   issuer in bits 32 to 39, its role in bits 40 to 47, and 0 above. The refusal is 0 where the call was
+   accepted, else the number of the first cause, 1 to 14; they are tried from 1 upwards, but 14 between
+   10 and 11. The verdict is 1, a yes, where kind 21 was accepted and the session may use the
+   permission, else 0. With a yes, issuer and role say through which role: of the roles that hold the
+   permission and that an active role of the session reaches (itself, or by attachments), the one with
+   the lowest issuer number, then the lowest role number. Without a yes both are 255, for every other
+   kind and in starting's answer too; so an answer as a whole is never 0.
 
    Kind 19 activates any role of the session's issuer that a role held by its user reaches (itself,
    or by attachments, through other issuers' roles too), and gives 11 for another. An accepted call
@@ -57,9 +61,17 @@
 
 #define YERMOITU_WORDS 9041
 
-/* The two numbers of an answer. */
+/* The four numbers of an answer. */
 #define YERMOITU_REFUSAL(answer) ((unsigned)((uint64_t)(answer) & 0xffff))
 #define YERMOITU_VERDICT(answer) ((unsigned)((uint64_t)(answer) >> 16 & 0xffff))
+
+/* The issuer, 0 to 15, of the role that gave the yes; without a yes 255, YERMOITU_NO_ROLE. */
+#define YERMOITU_ISSUER(answer) ((unsigned)((uint64_t)(answer) >> 32 & 0xff))
+
+/* That role's number within its issuer, 0 to 15; without a yes 255, YERMOITU_NO_ROLE. */
+#define YERMOITU_ROLE(answer) ((unsigned)((uint64_t)(answer) >> 40 & 0xff))
+
+#define YERMOITU_NO_ROLE 255
 
 /* What yermoitu_sheet returns: the error, and the bytes written, or the line where the error is 15. */
 #define YERMOITU_ERROR(made) ((unsigned)((uint64_t)(made) & 0xffff))

@@ -1,4 +1,5 @@
-/* Two estates and a press: estate 1 lends estate 0 a permission under 0's trust, until 0 withdraws it.
+/* Two estates and a press: estate 1 lends estate 0 a permission under 0's trust, until 0 withdraws it. A yes names the role that gave
+   it: 0's own role, while that one holds the permission, and then a role of 1's that is attached below it.
    From the repository's root:
 
        rt staticlib yermoitu
@@ -28,6 +29,12 @@ static const struct step story[] = {
     {"0 publishes role 2", {6, 0, 22, 0, 0, 2}},
     {"1 grants 5 to 0's role 2", {8, 0, 13, 0, 1, 5, 0, 2}},
     {"may 0's session 4 use 5?", {8, 0, 21, 0, 1, 5, 0, 4}},
+    {"1 adds role 7", {6, 0, 7, 0, 1, 7}},
+    {"1 grants 5 to its own role 7", {8, 0, 13, 0, 1, 5, 1, 7}},
+    {"1 attaches role 7 below 0's role 2", {8, 0, 15, 0, 1, 7, 0, 2}},
+    {"may 0's session 4 use 5?", {8, 0, 21, 0, 1, 5, 0, 4}},
+    {"1 ungrants 5 from 0's role 2", {8, 0, 14, 0, 1, 5, 0, 2}},
+    {"may 0's session 4 use 5?", {8, 0, 21, 0, 1, 5, 0, 4}},
     {"0 withdraws its trust in 1", {6, 0, 4, 0, 0, 1}},
     {"may 0's session 4 use 5?", {8, 0, 21, 0, 1, 5, 0, 4}},
 };
@@ -35,9 +42,13 @@ static const struct step story[] = {
 /* Estate 0's sheet. */
 static const char csv[] = "user,6\r\n\"role\",7\r\ngive,6,7\r\n";
 
+/* Its refusal and its verdict, and with a yes the role that gave it: 0#2 is role 2 of estate 0. */
 static void show(const char *says, uint64_t answer)
 {
-    printf("%-36s refusal %u verdict %u\n", says, YERMOITU_REFUSAL(answer), YERMOITU_VERDICT(answer));
+    printf("%-36s refusal %u verdict %u", says, YERMOITU_REFUSAL(answer), YERMOITU_VERDICT(answer));
+    if (YERMOITU_VERDICT(answer) == 1)
+        printf(" through %u#%u", YERMOITU_ISSUER(answer), YERMOITU_ROLE(answer));
+    printf("\n");
 }
 
 int main(void)

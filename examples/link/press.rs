@@ -24,14 +24,20 @@ fn sheet(csv: &[u8], caller: u8, out: &mut [u8]) -> u64 {
     unsafe { yermoitu_sheet(csv.as_ptr(), csv.len(), caller, out.as_mut_ptr(), out.len()) }
 }
 
+// Its refusal and its verdict, and with a yes the role that gave it: 0#2 is role 2 of estate 0.
 fn show(says: &str, answer: u64) {
-    println!("{says:<36} refusal {} verdict {}", answer & 0xffff, answer >> 16 & 0xffff);
+    let (refusal, verdict) = (answer & 0xffff, answer >> 16 & 0xffff);
+    print!("{says:<36} refusal {refusal} verdict {verdict}");
+    if verdict == 1 {
+        print!(" through {}#{}", answer >> 32 & 0xff, answer >> 40 & 0xff);
+    }
+    println!();
 }
 
 fn main() {
     let mut state = vec![0; 9041];
     show("start", start(&mut state));
-    let story: [(&str, &[u8]); 16] = [
+    let story: [(&str, &[u8]); 22] = [
         ("the operator enrols 0", &[6, 0, 1, 0, 16, 0]),
         ("the operator enrols 1", &[6, 0, 1, 0, 16, 1]),
         ("0 adds role 2", &[6, 0, 7, 0, 0, 2]),
@@ -44,6 +50,12 @@ fn main() {
         ("0 trusts 1", &[6, 0, 3, 0, 0, 1]),
         ("0 publishes role 2", &[6, 0, 22, 0, 0, 2]),
         ("1 grants 5 to 0's role 2", &[8, 0, 13, 0, 1, 5, 0, 2]),
+        ("may 0's session 4 use 5?", &[8, 0, 21, 0, 1, 5, 0, 4]),
+        ("1 adds role 7", &[6, 0, 7, 0, 1, 7]),
+        ("1 grants 5 to its own role 7", &[8, 0, 13, 0, 1, 5, 1, 7]),
+        ("1 attaches role 7 below 0's role 2", &[8, 0, 15, 0, 1, 7, 0, 2]),
+        ("may 0's session 4 use 5?", &[8, 0, 21, 0, 1, 5, 0, 4]),
+        ("1 ungrants 5 from 0's role 2", &[8, 0, 14, 0, 1, 5, 0, 2]),
         ("may 0's session 4 use 5?", &[8, 0, 21, 0, 1, 5, 0, 4]),
         ("0 withdraws its trust in 1", &[6, 0, 4, 0, 0, 1]),
         ("may 0's session 4 use 5?", &[8, 0, 21, 0, 1, 5, 0, 4]),

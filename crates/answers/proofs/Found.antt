@@ -2,7 +2,7 @@
 use mathlib.Core.Path.{_≡_, sym, subst, _∙_}
 use mathlib.Core.Bool.{Bool, true, false}
 use mathlib.Core.List.{List, [], _∷_}
-use Prim.Native.Nat.{ℕ, _<_}
+use Prim.Native.Nat.{ℕ}
 use Rattle.bits.specs.RoleSet.{in-set}
 use Rattle.bits.proofs.Booleans.{clash, same-test}
 use Rattle.mtas.specs.Hierarchy.{Role, _#_, Graph, Reaches, itself, down, same-role, reaches}
@@ -11,15 +11,12 @@ use Rattle.mtas.specs.Layout.{view}
 use Rattle.mtas.specs.LawTest.{LawfulWords}
 use Rattle.mtas.proofs.Facts.{none-above-15}
 use Rattle.mtas.proofs.Hierarchy.{Numbered, same-role-true, same-role-refl, reaches-sound, reaches-complete}
+use Rattle.mtas.proofs.Lowest.{Small}
 use Rattle.mtas.proofs.Authorized.{attachments-numbered}
-use Rattle.hierarchy.specs.Links.{linked, Reaching, ReachingOne}
+use Rattle.hierarchy.specs.Links.{linked, ReachingOne}
 use Rattle.hierarchy.proofs.Links.{attachment-words, linked-attachments}
 use Rattle.facts.specs.Table.{Above}
 use Rattle.facts.proofs.Places.{small}
-
--- the walk upwards from a set
-pub reach-told : (ws : List ℕ) {set found : List ℕ} → Reaching (linked (attachment-words ws)) set found → Reaching (attachments (view ws)) set found
-reach-told ws {set} {found} r = subst (λ g. Reaching g set found) (linked-attachments ws) r
 
 -- the walk upwards from the one role
 pub reaches-told : (ws : List ℕ) {j q i r : ℕ} {a b : Bool} {found : List ℕ} → Above (j ∷ q ∷ i ∷ r ∷ []) a → a ≡ false
@@ -36,9 +33,6 @@ module _ {ws : List ℕ} (W : LawfulWords ws) where
   numbered = attachments-numbered (view ws) (W .lawful .numbered)
 
   -- only numbered roles are linked, so a role with a number above 15 reaches itself alone, and is reached by itself alone
-  abbrev Small : Role → Type 0
-  Small a = (a .issuer < 16) × (a .number < 16)
-
   small-above : {a b : Role} → Reaches links a b → Small b → Small a
   small-above itself h = h
   small-above (down {b} {c} p k) h = let n = numbered b c k in small-above p (n .0, n .1)

@@ -1,16 +1,17 @@
--- A call's refusal is the first cause of its front, or else of its own row; refusal 0 is acceptance, and the effect says the verdict.
+-- A call's refusal is the first cause of its front, or else of its own row; refusal 0 is acceptance, and the effect says what is looked up.
 use mathlib.Core.Path.{_≡_, refl, ap, sym, _∙_}
 use mathlib.Core.List.{List, [], _∷_, _++_}
+use mathlib.Core.Option.{Option}
 use mathlib.Core.Bool.{Bool, true, false, cond, not}
 use Prim.Native.Nat.{ℕ}
 use lib.Dec.{eqb, ltb}
 use borrow.Author.Tests.{not-true, not-false}
-use Rattle.bits.specs.Bit.{digit}
 use Rattle.mtas.specs.Fact.{enrolled, above-15}
 use Rattle.mtas.specs.State.{State, user-of}
+use Rattle.mtas.specs.Hierarchy.{Role}
 use Rattle.mtas.specs.Call.{Call, arguments}
 use Rattle.mtas.specs.Rule as model
-use Rattle.mtas.specs.Answer.{Outcome, accepted, refused, first-cause, outcome, verdict-of, reply, answer}
+use Rattle.mtas.specs.Answer.{Outcome, accepted, refused, first-cause, outcome, found, reply, answer}
 use Rattle.mtas.specs.Layout.{view}
 use Rattle.mtas.proofs.Guards.{refused-not-0}
 use Rattle.mtas.proofs.Monitor.{zero-accepted}
@@ -21,7 +22,7 @@ use Rattle.rule.specs.declared.Guard.{Guard}
 use Rattle.rule.specs.declared.Effect.{Effect}
 use Rattle.rule.specs.declared.Whose.{Whose}
 use Rattle.rule.specs.Table.{guards-of, effect-of, whose-of, IsRow, IsWhose, MayCall, IsEffect}
-use Rattle.answers.specs.Refusal.{number-of, Tried, is-known, Known, InFront, Refusal, Verdict}
+use Rattle.answers.specs.Refusal.{number-of, Tried, is-known, Known, InFront, Refusal, LookedUp}
 
 abbrev or-else : Outcome → Outcome → Outcome
 or-else accepted o = o
@@ -118,12 +119,6 @@ module _ (ws : List ℕ) {c : ℕ} {k : Call} {r : ℕ} (f : InFront (view ws) c
       go (refused m) e =
           absurd (refused-not-0 (view ws) c k m (in-two (view ws) c k ∙ ap (λ o. or-else o (of-row (view ws) c k)) e) (sym (f .is ∙ ap number-of e) ∙ z))
 
--- ---- the verdict
-pub decided : {ws : List ℕ} {c v : ℕ} {k : Call} {x y : Effect} → IsEffect (view ws) c k x → x ≡ y → v ≡ verdict-of (view ws) c (effect-of y) → Verdict ws c k v
-decided {ws} {c} t e h = record { is = h ∙ ap (λ z. verdict-of (view ws) c (effect-of z)) (sym e) ∙ ap (verdict-of (view ws) c) (t .is) }
-
-pub yes-is-1 : {a b : Bool} → a ≡ b → a ≡ true → 1 ≡ digit b
-yes-is-1 e h = ap digit (sym h ∙ e)
-
-pub no-is-0 : {a b : Bool} → a ≡ b → a ≡ false → 0 ≡ digit b
-no-is-0 e h = ap digit (sym h ∙ e)
+-- ---- what is looked up
+pub decided : {ws : List ℕ} {c : ℕ} {o : Option Role} {k : Call} {x y : Effect} → IsEffect (view ws) c k x → x ≡ y → o ≡ found (view ws) c (effect-of y) → LookedUp ws c k o
+decided {ws} {c} t e h = record { is = h ∙ ap (λ z. found (view ws) c (effect-of z)) (sym e) ∙ ap (found (view ws) c) (t .is) }

@@ -6,9 +6,10 @@ use mathlib.Core.List.{List}
 use Prim.Native.Nat.{ℕ}
 use Rattle.mtas.specs.Fact.{enrolled}
 use Rattle.mtas.specs.State.{State, user-of}
+use Rattle.mtas.specs.Hierarchy.{Role}
 use Rattle.mtas.specs.Call.{Call, arguments}
 use Rattle.mtas.specs.Rule.{Guard, applies, cause, Whose, operator's, issuer's, rule, front}
-use Rattle.mtas.specs.Answer.{Outcome, accepted, refused, first-cause, verdict-of, answer}
+use Rattle.mtas.specs.Answer.{Outcome, accepted, refused, first-cause, found, answer}
 use Rattle.mtas.specs.Layout.{view}
 
 -- a guard, or none, applies
@@ -49,6 +50,6 @@ pub record InFront (st : State) (c : ℕ) (k : Call) (n : ℕ) : Type 0 where
 pub record Refusal (ws : List ℕ) (c : ℕ) (k : Call) (r : ℕ) : Type 0 where
   pub is : r ≡ (answer (view ws) c k) .refusal
 
--- the verdict of the call k from c, where it is accepted
-pub record Verdict (ws : List ℕ) (c : ℕ) (k : Call) (v : ℕ) : Type 0 where
-  pub is : v ≡ verdict-of (view ws) c (rule (user-of (view ws) c) c k .effect)
+-- what the call k from c looks up, where it is accepted
+pub record LookedUp (ws : List ℕ) (c : ℕ) (k : Call) (o : Option Role) : Type 0 where
+  pub is : o ≡ found (view ws) c (rule (user-of (view ws) c) c k .effect)

@@ -1,13 +1,15 @@
-// What a call is answered on a lawful state: its refusal (document 01, 'When a call is turned down') and its verdict.
+// What a call is answered on a lawful state: its refusal (document 01, 'When a call is turned down') and what it looks up.
 ghost use Rattle.mtas.specs.Layout.{view};
 ghost use Rattle.mtas.specs.LawTest.{LawfulWords};
 ghost use Rattle.record.specs.Decoded.{call-of};
 ghost use Rattle.rule.specs.Table.{guard-of, guards-of, whose-of};
-ghost use Rattle.answers.specs.Refusal.{Applies, Causes, Tried, Known, InFront, Refusal, Verdict};
+ghost use Rattle.answers.specs.Refusal.{Applies, Causes, Tried, Known, InFront, Refusal, LookedUp};
+ghost use Rattle.hierarchy.specs.Lowest.{found-of};
 
 mod walks;
 
 use facts::Fact;
+use hierarchy::Found;
 use record::Call;
 use rule::Effect;
 use rule::Guard;
@@ -96,22 +98,16 @@ pub fn refusal(state: &[u16], caller: u8, call: Call) -> u16
     first_cause(state, rule::guards(state, caller, call))
 }
 
-// The verdict of an accepted call: 1 only for kind 21.
-pub fn verdict(state: &[u16], caller: u8, call: Call) -> u16
+// What an accepted call looks up: a role only for kind 21.
+pub fn looked_up(state: &[u16], caller: u8, call: Call) -> Found
     requires { ⌜ LawfulWords (now state) ⌝ }
-    ensures { λ v. ⌜ Verdict (now (state .entry)) caller (call-of call) v ⌝ }
+    ensures { λ r. ⌜ LookedUp (now (state .entry)) caller (call-of call) (found-of r) ⌝ }
 {
     let effect = rule::effect_on(state, caller, call);
     match effect {
-        Effect::Enrols(_) => 0,
-        Effect::Puts(_) => 0,
-        Effect::Cuts(_) => 0,
-        Effect::Decides(p, i, s) => {
-            if walks::may_use(state, caller, p, i, s) {
-                1
-            } else {
-                0
-            }
-        }
+        Effect::Enrols(_) => Found::Nothing,
+        Effect::Puts(_) => Found::Nothing,
+        Effect::Cuts(_) => Found::Nothing,
+        Effect::Decides(p, i, s) => walks::lookup(state, caller, p, i, s),
     }
 }

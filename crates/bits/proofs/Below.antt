@@ -2,10 +2,11 @@
 use mathlib.Core.Path.{_≡_, refl, ap, sym, subst, _∙_}
 use mathlib.Core.Logic.{_⊎_, inl, inr, _≢_}
 use mathlib.Core.Bool.{Bool, true, false, _&&_}
+use mathlib.Core.Option.{Option, none, some}
 use Prim.Native.Nat.{ℕ, zero, suc, _<_, _≤_}
 use native.Mathlib.Omega.{arith}
 use lib.ListN.{length, getD}
-use Rattle.bits.specs.Below.{any-below, all-below, find-below, tally, tabulate}
+use Rattle.bits.specs.Below.{any-below, all-below, find-below, lowest-below, tally, tabulate}
 use Rattle.bits.proofs.Booleans.{clash, and-left, and-right, and-intro, same-test, below-or-not}
 
 pub any-intro : (n : ℕ) (f : ℕ → Bool) (k : ℕ) → k < n → f k ≡ true → any-below n f ≡ true
@@ -98,6 +99,71 @@ find-ext (suc n) f g d h = go (find-ext n f g d h) (f n) refl
     go : find-below n f d ≡ find-below n g d → (b : Bool) → f n ≡ b → find-below (suc n) f d ≡ find-below (suc n) g d
     go rec true e = let e2 : g n ≡ true = sym (h n) ∙ e in rw (e, e2, find-below)
     go rec false e = let e2 : g n ≡ false = sym (h n) ∙ e in rw (e, e2, find-below) rec
+
+-- the number is below n and passes, and none lower does
+pub record IsLowest (n : ℕ) (f : ℕ → Bool) (k : ℕ) : Type 0 where
+  pub below : k < n
+  pub passes : f k ≡ true
+  pub none-lower : (m : ℕ) → m < k → f m ≡ false
+
+-- what is found: nothing where none passes, else the lowest that does
+abbrev Finds : ℕ → (ℕ → Bool) → Option ℕ → Type 0
+Finds n f none = (k : ℕ) → k < n → f k ≡ false
+Finds n f (some k) = IsLowest n f k
+
+finds : (n : ℕ) (f : ℕ → Bool) → Finds n f (lowest-below n f)
+unfolding lowest-below
+finds zero f = λ k l. absurd (omega arith)
+finds (suc n) f = go (lowest-below n f) refl (finds n f)
+  where
+    last : (b : Bool) → f n ≡ b → ((k : ℕ) → k < n → f k ≡ false) → Finds (suc n) f (elim b [ true ↦ some n | false ↦ none ])
+    last true e h = record { below = omega arith; passes = e; none-lower = h }
+    last false e h = λ k l. at k l (below-or-not k n)
+      where
+        at : (k : ℕ) → k < suc n → (k < n) ⊎ (n ≤ k) → f k ≡ false
+        at k l (inl m) = h k m
+        at k l (inr m) = let q : n ≡ k = omega arith in rw (← q) e
+
+    go : (o : Option ℕ) → lowest-below n f ≡ o → Finds n f o → Finds (suc n) f (lowest-below (suc n) f)
+    go (some k) e h = rw (e, lowest-below) (record { below = omega (arith, h .below); passes = h .passes; none-lower = h .none-lower })
+    go none e h = rw (e, lowest-below) (last (f n) refl h)
+
+pub lowest-some : (n : ℕ) (f : ℕ → Bool) (k : ℕ) → lowest-below n f ≡ some k → IsLowest n f k
+lowest-some n f k e = subst (Finds n f) e (finds n f)
+
+pub lowest-none : (n : ℕ) (f : ℕ → Bool) → lowest-below n f ≡ none → (k : ℕ) → k < n → f k ≡ false
+lowest-none n f e = subst (Finds n f) e (finds n f)
+
+pub lowest-is : (n : ℕ) (f : ℕ → Bool) (k : ℕ) → IsLowest n f k → lowest-below n f ≡ some k
+lowest-is n f k l = go (lowest-below n f) (finds n f)
+  where
+    go : (o : Option ℕ) → Finds n f o → o ≡ some k
+    go none h = absurd (clash (l .passes) (h k (l .below)))
+    go (some m) h = by (below-or-not m k) (below-or-not k m)
+      where
+        by : (m < k) ⊎ (k ≤ m) → (k < m) ⊎ (m ≤ k) → some m ≡ some k
+        by (inl x) y = absurd (clash (h .passes) (l .none-lower m x))
+        by (inr x) (inl y) = absurd (clash (l .passes) (h .none-lower k y))
+        by (inr x) (inr y) = let e : m ≡ k = omega arith in ap some e
+
+pub none-is : (n : ℕ) (f : ℕ → Bool) → ((k : ℕ) → k < n → f k ≡ false) → lowest-below n f ≡ none
+none-is n f h = go (lowest-below n f) (finds n f)
+  where
+    go : (o : Option ℕ) → Finds n f o → o ≡ none
+    go none m = refl
+    go (some k) m = absurd (clash (m .passes) (h k (m .below)))
+
+-- two tests that agree below n
+pub lowest-ext : (n : ℕ) (f g : ℕ → Bool) → ((k : ℕ) → k < n → f k ≡ g k) → lowest-below n f ≡ lowest-below n g
+lowest-ext n f g e = go (lowest-below n f) (finds n f)
+  where
+    go : (o : Option ℕ) → Finds n f o → o ≡ lowest-below n g
+    go none h = sym (none-is n g (λ k l. sym (e k l) ∙ h k l))
+    go (some k) h = sym (lowest-is n g k (record {
+      below = h .below;
+      passes = sym (e k (h .below)) ∙ h .passes;
+      none-lower = λ m l. sym (e m (omega (arith, h .below))) ∙ h .none-lower m l;
+    }))
 
 pub tally-le : (n : ℕ) (f : ℕ → Bool) → tally n f ≤ n
 unfolding tally

@@ -1,6 +1,7 @@
 -- Tests over the numbers below n, and lists given by their places. Each test stops where its answer is known, so closed cases compute.
 use mathlib.Core.Bool.{Bool, true, false}
 use mathlib.Core.List.{List, [], _∷_}
+use mathlib.Core.Option.{Option, none, some}
 use Prim.Native.Nat.{ℕ, zero, suc}
 
 -- some number below n passes
@@ -17,6 +18,11 @@ all-below (suc n) f = elim (f n) [ true ↦ all-below n f | false ↦ false ]
 unfoldable pub find-below : ℕ → (ℕ → Bool) → ℕ → ℕ
 find-below zero f d = d
 find-below (suc n) f d = elim (f n) [ true ↦ n | false ↦ find-below n f d ]
+
+-- the lowest number below n that passes
+unfoldable pub lowest-below : ℕ → (ℕ → Bool) → Option ℕ
+lowest-below zero f = none
+lowest-below (suc n) f = elim (lowest-below n f) [ some k ↦ some k | none ↦ elim (f n) [ true ↦ some n | false ↦ none ] ]
 
 -- how many numbers below n pass
 unfoldable pub tally : ℕ → (ℕ → Bool) → ℕ

@@ -1,4 +1,4 @@
-// Document 01's twelve press-house cases, played through start and call. A line for each case: its letter, the refusal and the verdict.
+// Document 01's twelve press-house cases, played through start and call. A line for each case: its letter, the refusal, the verdict, and the issuer and number of the role that gave a yes.
 // After B the word of 1%5's holders among issuer 0's roles is written too: the grant is gone.
 use libc::STDOUT_FILENO;
 use monitor::Answer;
@@ -45,6 +45,10 @@ fn show(letter: u8, a: Answer) {
     io::print_decimal(STDOUT_FILENO, a.refusal as u64);
     io::write_all(STDOUT_FILENO, b" ");
     io::print_decimal(STDOUT_FILENO, a.verdict as u64);
+    io::write_all(STDOUT_FILENO, b" ");
+    io::print_decimal(STDOUT_FILENO, a.issuer as u64);
+    io::write_all(STDOUT_FILENO, b" ");
+    io::print_decimal(STDOUT_FILENO, a.role as u64);
     io::write_all(STDOUT_FILENO, b"\n");
 }
 

@@ -20,13 +20,24 @@ use Rattle.bits.proofs.Booleans.{clash, and-left, and-right, and-intro, and-not
 use Rattle.mtas.specs.Hierarchy.{Role, _#_, Graph, Reaches, itself, down}
 use Rattle.mtas.proofs.Hierarchy.{Numbered, then}
 use Rattle.hierarchy.specs.Links.{linked, among, Subset, Reaching, ReachesInto}
-use Rattle.hierarchy.specs.Climbing.{BitsIn, AllReach, Lifted, Climbing, Climbed}
+use Rattle.hierarchy.specs.Climbing.{AllReach, Climbing}
 use Rattle.hierarchy.proofs.Links.{linked-bit, linked-numbered}
 use Rattle.hierarchy.proofs.Rows.{Wide}
 use Rattle.hierarchy.proofs.Freed.{subset-itself, subset-then}
 use Rattle.hierarchy.proofs.Sizes.{size, fewer-outside}
 
 -- ---- lifting the roles of one issuer, one by one
+-- the bits of the word are roles of issuer i in the set
+abbrev BitsIn : ℕ → List ℕ → ℕ → Type 0
+BitsIn word set i = (r : ℕ) → r < 16 → bit word r ≡ true → in-set set i r ≡ true
+
+-- the set before, with the direct seniors of the roles of issuer i that are bits of the word, and of those roles of i that weren't in it before
+pub record Lifted (below : Graph) (i word : ℕ) (before after : List ℕ) : Type 0 where
+  pub kept : Subset before after
+  pub seniors : (r : ℕ) → r < 16 → in-set after i r ≡ true → (in-set before i r ≡ true → bit word r ≡ true)
+      → (a : Role) → below a (i # r) ≡ true → among after a ≡ true
+  pub only : (from : List ℕ) → AllReach below from before → AllReach below from after
+
 -- all but the roles of the rest
 pub record LiftedBut (below : Graph) (i word rest : ℕ) (before after : List ℕ) : Type 0 where
   pub inside : BitsIn rest after i
@@ -129,6 +140,12 @@ module _ (links : List ℕ) (i r rest : ℕ) (s row t : List ℕ) (li : i < 16) 
   fewer-left ins = omega (arith, more-lifted ins, tally-le 16 (λ q. in-set t i q && not (bit rest′ q)))
 
 -- ---- one round, issuer by issuer
+-- one round: what was seen is done, and the walk is still one from the same set
+pub record Climbed (below : Graph) (seen done seen′ done′ : List ℕ) : Type 0 where
+  pub kept : Subset done done′
+  pub all-done : Subset seen done′
+  pub goes-on : (from : List ℕ) → Climbing below from seen done → Climbing below from seen′ done′
+
 pub record RoundTo (below : Graph) (n : ℕ) (seen done seen′ done′ : List ℕ) : Type 0 where
   pub wide : Wide done′
   pub kept-seen : Subset seen seen′

@@ -6,3 +6,4 @@ mod Acyclicity
 mod Slide
 mod Climbing
 mod One
+mod Searching

@@ -1,3 +1,4 @@
 pub mod Links
 pub mod Climbing
+pub mod Lowest
 pub mod Freed

@@ -5,29 +5,15 @@ ghost use Prim.Native.Nat.{_<_};
 ghost use lib.ListN.{length};
 ghost use Rattle.mtas.specs.Layout.{links-length};
 ghost use Rattle.hierarchy.specs.Links.{linked, Reaching, ReachingOne};
-ghost use Rattle.hierarchy.specs.Climbing.{BitsIn, Lifted, Climbed};
+ghost use Rattle.hierarchy.specs.Climbing.{Climbing};
 use bits::RoleSet;
 
 mod circles;
+mod lowest;
 
 pub use circles::acyclic;
-
-// The direct seniors of the roles of issuer i that are bits of the word are seen too, and those of the roles of i that come so.
-fn lift(links: &[u16], i: usize, word: u16, mut seen: RoleSet) -> RoleSet
-    requires { ⌜ (length (now links) ≡ links-length) × (i < 16) × BitsIn word (seen .words) i ⌝ }
-    ensures { λ r. ⌜ Lifted (linked (now (links .entry))) i word (seen .words) (r .words) ⌝ }
-{
-    let mut rest = word;
-    while rest != 0 {
-        let r = bits::lowest_bit(rest);
-        let row = RoleSet::row(links, 16 * (16 * i + r as usize));
-        let above = row.words[i];
-        let known = seen.words[i];
-        seen = seen.union(row);
-        rest = bits::without_bit(rest, r) | (above & !known);
-    }
-    seen
-}
+pub use lowest::Found;
+pub use lowest::lowest_reached;
 
 // A climb: the roles seen, and those whose direct seniors are seen too.
 struct Climb {
@@ -35,39 +21,48 @@ struct Climb {
     done: RoleSet,
 }
 
-// Every role seen is done, issuer by issuer.
-fn round(links: &[u16], from: Climb) -> Climb
-    requires { ⌜ length (now links) ≡ links-length ⌝ }
-    ensures { λ r. ⌜ Climbed (linked (now (links .entry))) (from .seen .words) (from .done .words) (r .seen .words) (r .done .words) ⌝ }
+// A climb goes on until the direct seniors of all that it has seen are seen too: in rounds, issuer by issuer, and of each issuer also those that come so.
+// The loops stand in one function, so that the sets aren't copied from one to another for each role.
+fn finish(links: &[u16], from: Climb) -> RoleSet
+    requires { ⌜ (length (now links) ≡ links-length) × Climbing (linked (now links)) (from .seen .words) (from .seen .words) (from .done .words) ⌝ }
+    ensures { λ r. ⌜ Reaching (linked (now (links .entry))) (from .seen .words) (r .words) ⌝ }
 {
     let mut seen = from.seen;
     let mut done = from.done;
-    for i in 0..16 {
-        let d = done.words[i];
-        let s = seen.words[i];
-        let word = s & !d;
-        if word != 0 {
-            seen = lift(links, i, word, seen);
-            let lifted = seen.words[i];
-            done.words[i] = d | lifted;
+    while bits::gather_row(&seen.words, 0, done) != 0 {
+        for i in 0..16 {
+            let d = done.words[i];
+            let s = seen.words[i];
+            let mut rest = s & !d;
+            if rest != 0 {
+                while rest != 0 {
+                    let r = bits::lowest_bit(rest);
+                    let row = RoleSet::row(links, 16 * (16 * i + r as usize));
+                    let above = row.words[i];
+                    let known = seen.words[i];
+                    seen = seen.union(row);
+                    rest = bits::without_bit(rest, r) | (above & !known);
+                }
+                let lifted = seen.words[i];
+                done.words[i] = d | lifted;
+            }
         }
     }
-    Climb { seen, done }
+    seen
 }
 
 // The roles that reach one of a set.
-pub fn above(links: &[u16], set: RoleSet) -> RoleSet
+fn above(links: &[u16], set: RoleSet) -> RoleSet
     requires { ⌜ length (now links) ≡ links-length ⌝ }
     ensures { λ r. ⌜ Reaching (linked (now (links .entry))) (set .words) (r .words) ⌝ }
 {
-    let mut seen = set;
-    let mut done = RoleSet::empty();
-    while bits::gather_row(&seen.words, 0, done) != 0 {
-        let next = round(links, Climb { seen, done });
-        seen = next.seen;
-        done = next.done;
-    }
-    seen
+    finish(
+        links,
+        Climb {
+            seen: set,
+            done: RoleSet::empty(),
+        },
+    )
 }
 
 // The roles that reach i#r.

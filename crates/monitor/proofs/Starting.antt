@@ -11,11 +11,11 @@ use Rattle.bits.specs.Stride.{in-run}
 use Rattle.bits.proofs.Stride.{run-in}
 use Rattle.bits.proofs.Below.{length-tabulate, getD-tabulate}
 use Rattle.mtas.specs.Layout.{session-user, Cell, sixteen, its-user, in-session, cell, sessions-at, public-at, state-length, address, word-at}
-use Rattle.mtas.specs.Monitor.{Result, initial, initial-words, start}
+use Rattle.mtas.specs.Answer.{Answer, refuses}
+use Rattle.mtas.specs.Monitor.{initial, initial-words, start}
 use Rattle.mtas.proofs.Address.{word-at-address, address-word-at, word-at-numbered}
 use Rattle.mtas.proofs.Cells.{Placed, placed}
-use Rattle.monitor.specs.declared.Answer.{Answer}
-use Rattle.monitor.specs.Contract.{Gives, two-numbers}
+use Rattle.monitor.specs.Contract.{Gives}
 
 -- a word is 65535 at starting exactly where it is a session's user, and those are two apart
 module _ (k : ℕ) (l : k < state-length) where
@@ -36,19 +36,15 @@ module _ (k : ℕ) (l : k < state-length) where
           absurd (n (omega arith) (omega arith) (omega arith))
       go (in-session i s f) p = refl
 
--- r is the answer of two numbers
-pub gives : {r : Answer} {n v : ℕ} → r ≡ two-numbers n v → {d : Result} {ws : List ℕ} → Gives d n v ws → Gives d (r .refusal) (r .verdict) ws
-gives e g = rw e g
-
-pub started : {ws vs : List ℕ} {r : Answer} → length ws ≡ state-length → Updated (in-run 0 state-length) (λ k x. initial (cell (word-at k))) ws vs → r ≡ two-numbers 0 0 → Gives (start ws) (r .refusal) (r .verdict) vs
+pub started : {ws vs : List ℕ} {x : Answer} → length ws ≡ state-length → Updated (in-run 0 state-length) (λ k x. initial (cell (word-at k))) ws vs → x ≡ refuses 0 → Gives (start ws) x vs
 unfolding start initial-words
-started {ws} {vs} long u e = gives e (rw (eq-eqb (length ws) state-length long, start) (record { same-refusal = refl; same-verdict = refl; same-words = words }))
+started {ws} {vs} long u e = rw (eq-eqb (length ws) state-length long, start) (record { same-answer = e; same-words = words })
   where
     words : vs ≡ initial-words
     words =
         ext-getD 0 vs initial-words (u .len ∙ long ∙ sym (length-tabulate state-length (λ k. initial (cell (word-at k)))))
         (λ k l. let b : k < state-length = omega (arith, u .len) in u .each k ∙ rw (run-in 0 state-length k (omega arith) (omega arith)) (sym (getD-tabulate state-length (λ j. initial (cell (word-at j))) k b)))
 
-pub not-started : {ws : List ℕ} {r : Answer} → (length ws ≡ state-length → ⊥) → r ≡ two-numbers 1 0 → Gives (start ws) (r .refusal) (r .verdict) ws
+pub not-started : {ws : List ℕ} {x : Answer} → (length ws ≡ state-length → ⊥) → x ≡ refuses 1 → Gives (start ws) x ws
 unfolding start
-not-started {ws} n e = gives e (rw (ne-eqb (length ws) state-length n, start) (record { same-refusal = refl; same-verdict = refl; same-words = refl }))
+not-started {ws} n e = rw (ne-eqb (length ws) state-length n, start) (record { same-answer = e; same-words = refl })

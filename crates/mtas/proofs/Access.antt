@@ -37,13 +37,13 @@ module _ (st : State) (c p i s : ℕ) where
   user-may-ask : Lawful st → MayUsePermission st c p i s → MayAsk st c p i s
   user-may-ask L m =
       let g = granted c p (m .reached .issuer) (m .reached .number) in
-      let t = L .numbered g (m .is-holder) in
-      let a = L .numbered (active i s (m .its-user) (m .its-role)) (m .is-active) in
+      let t = L .numbered g (m .may .is-holder) in
+      let a = L .numbered (active i s (m .may .its-user) (m .may .its-role)) (m .may .is-active) in
       record {
         is-issuer = t .0;
-        is-enrolled = L .supported g (enrolled c) (m .is-holder) (search (here, there) depth 16);
+        is-enrolled = L .supported g (enrolled c) (m .may .is-holder) (search (here, there) depth 16);
         small = (t .1 .0, (a .0, (a .1 .0, tt)));
-        is-there = L .supported g (permission c p) (m .is-holder) here;
+        is-there = L .supported g (permission c p) (m .may .is-holder) here;
       }
 
   asking-leaves : next st c (CheckAccess p i s) ≡ st
@@ -88,7 +88,7 @@ access-checks = record { accepted-iff = checked; closed-gives-0 = closed; yes-if
         }
 
     closed : (ws b : List ℕ) (c p i s : ℕ) → decode b ≡ request c (CheckAccess p i s) → ((u : ℕ) → (view ws) .stands (opened i s u) ≡ false) → (monitor ws b) .answer .verdict ≡ 0
-    closed ws b c p i s d n = else-0 ws b (λ E. let (W, m) = yes-where ws b c p i s d .0 (verdict-iff ws b .1 E) in clash (m .is-open) (n (m .its-user)))
+    closed ws b c p i s d n = else-0 ws b (λ E. let (W, m) = yes-where ws b c p i s d .0 (verdict-iff ws b .1 E) in clash (m .may .is-open) (n (m .may .its-user)))
 
     kept : (ws b : List ℕ) (c p i s : ℕ) → decode b ≡ request c (CheckAccess p i s) → (monitor ws b) .words ≡ ws
     kept ws b c p i s d = go (monitor-cases ws b)

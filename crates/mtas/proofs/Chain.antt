@@ -19,8 +19,8 @@ module _ (st : State) (L : Lawful st) where
 
   used : (j p i s : ℕ) → MayUsePermission st j p i s → Chain st i j
   used j p i s m =
-      onward (along _ (m .reached) (m .is-reached))
-      (L .supported (granted j p (m .reached .issuer) (m .reached .number)) (trusts (m .reached .issuer) j) (m .is-holder) (search (here, there) depth 16))
+      onward (along _ (m .reached) (m .may .is-reached))
+      (L .supported (granted j p (m .reached .issuer) (m .reached .number)) (trusts (m .reached .issuer) j) (m .may .is-holder) (search (here, there) depth 16))
 
 pub chains : Chains
 chains = record {

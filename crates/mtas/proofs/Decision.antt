@@ -1,66 +1,84 @@
--- Demand 2's 'if and only if': the test of kind 21 is true exactly where the session may use the permission. It is said of any graph and any test of holders.
-use mathlib.Core.Path.{_≡_}
+-- Demand 2's 'if and only if': the lookup of kind 21 gives a role exactly where the session may use the permission through it, and through no lower one.
+-- The test behind it is said of any graph and any test of holders.
+use mathlib.Core.Path.{_≡_, refl, ap, _∙_}
 use mathlib.Core.Logic.{_↔_}
+use mathlib.Core.Option.{Option, none, some}
 use mathlib.Core.Bool.{Bool, true, _&&_}
-use Prim.Native.Nat.{ℕ, _<_}
+use Prim.Native.Nat.{ℕ}
 use Rattle.bits.specs.Below.{any-below}
-use Rattle.bits.proofs.Below.{any-intro, any-elim, any-both-intro, any-both-elim}
+use Rattle.bits.proofs.Booleans.{and-left, and-right, and-intro}
+use Rattle.bits.proofs.Below.{any-both-intro, any-both-elim}
 use Rattle.mtas.specs.Fact.{granted, opened, active}
 use Rattle.mtas.specs.State.{State, user-of}
-use Rattle.mtas.specs.Hierarchy.{Role, _#_, Graph, Reaches, reaches}
+use Rattle.mtas.specs.Hierarchy.{Role, _#_, Graph, reaches}
 use Rattle.mtas.specs.Law.{here, attachments, holders-of, Lawful}
-use Rattle.mtas.specs.Answer.{leads-to, may-use, decides-on}
-use Rattle.mtas.specs.Decision.{MayUse, MayUsePermission}
+use Rattle.mtas.specs.Answer.{may-use-through, lookup}
+use Rattle.mtas.specs.Decision.{MayUseThrough, MayUsePermissionThrough, MayUsePermission}
+use Rattle.mtas.specs.Through.{LowestThrough}
 use Rattle.mtas.proofs.Hierarchy.{Numbered, reaches-sound, reaches-complete}
 use Rattle.mtas.proofs.Authorized.{attachments-numbered}
 use Rattle.mtas.proofs.Law.{rooted}
 use Rattle.mtas.proofs.Sessions.{user-is}
+use Rattle.mtas.proofs.Lowest.{Small, lowest-found, none-found, lowest-is}
 
-module _ (below : Graph) (holder : Role → Bool) where
-  pub leads-to-sound : (a : Role) → leads-to below holder a ≡ true → (b : Role) × Reaches below a b × (holder b ≡ true)
-  unfolding leads-to
-  leads-to-sound a h =
-      let (i, li, k) = any-elim 16 (λ i. any-below 16 (λ r. holder (i # r) && reaches below a (i # r))) h in
-      let (r, lr, g, w) = any-both-elim 16 (λ r. holder (i # r)) (λ r. reaches below a (i # r)) k in
-      (i # r, reaches-sound below a (i # r) w, g)
+module _ (below : Graph) (holder : Role → Bool) (numbered : Numbered below) (st : State) (L : Lawful st) (i s : ℕ) (b : Role) where
+  abbrev on : ℕ → Bool
+  on r = st .stands (active i s (user-of st i s) r)
 
-  module _ (numbered : Numbered below) (known : (b : Role) → holder b ≡ true → (b .issuer < 16) × (b .number < 16)) where
-    pub leads-to-complete : (a b : Role) → Reaches below a b → holder b ≡ true → leads-to below holder a ≡ true
-    unfolding leads-to
-    leads-to-complete a b w g =
-        let (li, lr) = known b g in
-        any-intro 16 (λ i. any-below 16 (λ r. holder (i # r) && reaches below a (i # r))) (b .issuer) li
-        (any-both-intro 16 (λ r. holder (b .issuer # r)) (λ r. reaches below a (b .issuer # r)) (b .number) lr g (reaches-complete below numbered w))
+  abbrev to : ℕ → Bool
+  to r = reaches below (i # r) b
 
-    pub may-use-iff : (st : State) → Lawful st → (i s : ℕ) → (may-use st below holder i s ≡ true) ↔ MayUse st below holder i s
-    unfolding may-use
-    may-use-iff st L i s = (sound, complete)
-      where
-        sound : any-below 16 (λ r. st .stands (active i s (user-of st i s) r) && leads-to below holder (i # r)) ≡ true → MayUse st below holder i s
-        sound h =
-            let (r, l, a, w) = any-both-elim 16 (λ r. st .stands (active i s (user-of st i s) r)) (λ r. leads-to below holder (i # r)) h in
-            let (b, q, g) = leads-to-sound (i # r) w in
-            record {
-              its-user = user-of st i s;
-              its-role = r;
-              reached = b;
-              is-open = L .supported (active i s (user-of st i s) r) (opened i s (user-of st i s)) a here;
-              is-active = a;
-              is-reached = q;
-              is-holder = g;
-            }
+  pub may-use-through-iff : (may-use-through st below holder i s b ≡ true) ↔ MayUseThrough st below holder i s b
+  unfolding may-use-through
+  may-use-through-iff = (sound, complete)
+    where
+      sound : holder b && any-below 16 (λ r. on r && to r) ≡ true → MayUseThrough st below holder i s b
+      sound h =
+          let (r, l, a, w) = any-both-elim 16 on to (and-right (holder b) (any-below 16 (λ r. on r && to r)) h) in
+          record {
+            its-user = user-of st i s;
+            its-role = r;
+            is-open = L .supported (active i s (user-of st i s) r) (opened i s (user-of st i s)) a here;
+            is-active = a;
+            is-reached = reaches-sound below (i # r) b w;
+            is-holder = and-left (holder b) (any-below 16 (λ r. on r && to r)) h;
+          }
 
-        complete : MayUse st below holder i s → any-below 16 (λ r. st .stands (active i s (user-of st i s) r) && leads-to below holder (i # r)) ≡ true
-        complete m =
-            any-both-intro 16 (λ r. st .stands (active i s (user-of st i s) r)) (λ r. leads-to below holder (i # r)) (m .its-role)
-            ((L .numbered (active i s (m .its-user) (m .its-role)) (m .is-active)) .1 .1 .1 .0)
-            (rw (user-is st (rooted L) i s (m .its-user) (m .is-open)) (m .is-active))
-            (leads-to-complete (i # m .its-role) (m .reached) (m .is-reached) (m .is-holder))
+      complete : MayUseThrough st below holder i s b → holder b && any-below 16 (λ r. on r && to r) ≡ true
+      complete m =
+          and-intro (holder b) (any-below 16 (λ r. on r && to r)) (m .is-holder)
+          (any-both-intro 16 on to (m .its-role)
+          ((L .numbered (active i s (m .its-user) (m .its-role)) (m .is-active)) .1 .1 .1 .0)
+          (ap (λ u. st .stands (active i s u (m .its-role))) (user-is st (rooted L) i s (m .its-user) (m .is-open)) ∙ m .is-active)
+          (reaches-complete below numbered (m .is-reached)))
 
 module _ (st : State) (L : Lawful st) where
-  pub holders-numbered : (j p : ℕ) (b : Role) → holders-of st j p b ≡ true → (b .issuer < 16) × (b .number < 16)
+  pub holders-numbered : (j p : ℕ) (b : Role) → holders-of st j p b ≡ true → Small b
   holders-numbered j p b g = let t = L .numbered (granted j p (b .issuer) (b .number)) g in (t .1 .1 .0, t .1 .1 .1 .0)
 
   -- through the attachments that stand
-  pub decision-iff : (j p i s : ℕ) → (decides-on st j p i s ≡ true) ↔ MayUsePermission st j p i s
-  decision-iff j p i s = may-use-iff (attachments st) (holders-of st j p) (attachments-numbered st (L .numbered)) (holders-numbered j p) st L i s
+  module _ (j p i s : ℕ) where
+    abbrev pub test : Role → Bool
+    test b = may-use-through st (attachments st) (holders-of st j p) i s b
+
+    pub test-iff : (b : Role) → (test b ≡ true) ↔ MayUsePermissionThrough st j p i s b
+    test-iff b = may-use-through-iff (attachments st) (holders-of st j p) (attachments-numbered st (L .numbered)) st L i s b
+
+    known : (b : Role) → test b ≡ true → Small b
+    known b h = holders-numbered j p b (test-iff b .0 h .is-holder)
+
+    pub lookup-iff : (a : Role) → (lookup st j p i s ≡ some a) ↔ LowestThrough st j p i s a
+    unfolding lookup
+    lookup-iff a = (
+      λ e. let l = lowest-found test known a e in
+          record { may = test-iff a .0 (l .passes); none-lower = λ b h m. l .none-lower b h (test-iff b .1 m) },
+      λ l. lowest-is test known a (record { passes = test-iff a .1 (l .may); none-lower = λ b h t. l .none-lower b h (test-iff b .0 t) }),
+    )
+
+    pub none-iff : (lookup st j p i s ≡ none) ↔ (MayUsePermission st j p i s → ⊥)
+    unfolding lookup
+    none-iff = (λ e m. none-found test known e (m .reached) (test-iff (m .reached) .1 (m .may)), λ n. go (lookup st j p i s) refl n)
+      where
+        go : (o : Option Role) → lookup st j p i s ≡ o → (MayUsePermission st j p i s → ⊥) → lookup st j p i s ≡ none
+        go none e n = e
+        go (some a) e n = absurd (n (record { reached = a; may = lookup-iff a .0 e .may }))

@@ -12,6 +12,7 @@ pub mod Record
 pub mod Settling
 pub mod Cascades
 pub mod Changes
+pub mod Lowest
 pub mod Decision
 pub mod Address
 pub mod Cells
@@ -24,6 +25,7 @@ pub mod Answered
 pub mod Tried
 pub mod Access
 pub mod Chain
+pub mod Through
 pub mod Walks
 pub mod Isolation
 pub mod Alike

@@ -13,7 +13,8 @@ use Rattle.mtas.specs.Hierarchy.{Role, _#_, Graph, Reaches, itself, down
 use Rattle.mtas.specs.Law.{attachments, Lawful}
 use Rattle.mtas.specs.Call.{Call, AssignTrust}
 use Rattle.mtas.specs.Answer.{accepted, outcome}
-use Rattle.mtas.specs.Decision.{MayUsePermission}
+use Rattle.mtas.specs.Decision.{MayUsePermissionThrough, MayUsePermission}
+use Rattle.mtas.specs.Through.{LowestThrough}
 use Rattle.mtas.specs.Layout.{enrolled-issuers, Cell, sixteen, its-user, in-session, cell, word-at, contents, encode, view}
 use Rattle.mtas.specs.Record.{Request, sign-of-life, undecodable, request, decode, inside, remains}
 use Rattle.mtas.specs.Monitor.{initial-words, answered, state-after, monitor}
@@ -21,13 +22,13 @@ use Rattle.mtas.specs.Histories.{History, final, purge, answers, TrustRe
 use Rattle.mtas.proofs.Hierarchy.{Numbered}
 use Rattle.mtas.proofs.Authorized.{attachments-numbered}
 use Rattle.mtas.proofs.Guards.{Passed, passed}
-use Rattle.mtas.proofs.Decision.{decision-iff}
+use Rattle.mtas.proofs.Decision.{test-iff}
 use Rattle.mtas.proofs.Words.{encode-at, read-encode, view-encode}
 use Rattle.mtas.proofs.Monitor.{initial-is-nothing, monitor-encode, accepted-zero}
 use Rattle.mtas.proofs.Remaining.{issuer's}
 use Rattle.mtas.proofs.Walks.{from-inside}
 use Rattle.mtas.proofs.Isolation.{controller, Controlled, owned-inside, Secure, nothing-secure, Agree, Calm, carries, upwards, outsider-unseen, next-secure}
-use Rattle.mtas.proofs.Unwinding.{user-same, decision-same, answer-same, next-agrees}
+use Rattle.mtas.proofs.Unwinding.{user-same, test-same, answer-same, next-agrees}
 
 module _ (member : ℕ → Bool) where
   abbrev ins : ℕ → Bool
@@ -155,6 +156,7 @@ noninterference member h₁ h₂ e q₁ q₂ = record {
   same-answers = rw n (t₁ .same-answers ∙ ap (answers member (encode nothing)) e ∙ sym (t₂ .same-answers));
   same-words = λ j l m. rw (n, t₁ .left-is, t₂ .left-is) (same-in-name member (t₁ .left) (t₂ .left) (t₁ .left-secure) (t₂ .left-secure) agree j l (member-inside member j l m));
   same-decisions = λ j p i s l m. rw (n, t₁ .left-is, t₂ .left-is, view-encode (t₁ .left) (t₁ .left-secure .lawful), view-encode (t₂ .left) (t₂ .left-secure .lawful)) (decided j p i s (member-inside member j l m));
+  same-roles = λ j p i s l m a. rw (n, t₁ .left-is, t₂ .left-is, view-encode (t₁ .left) (t₁ .left-secure .lawful), view-encode (t₂ .left) (t₂ .left-secure .lawful)) (lowest j p i s (member-inside member j l m) a);
 }
   where
     n : initial-words ≡ encode nothing
@@ -176,12 +178,25 @@ noninterference member h₁ h₂ e q₁ q₂ = record {
     agree : Agree (inside member) (t₁ .left) (t₂ .left)
     agree f o = t₁ .agree f o ∙ ap (λ x. x .stands f) purged ∙ sym (t₂ .agree f o)
 
+    -- a session may use a member's permission through the same roles
+    through : (j p i s : ℕ) → inside member j ≡ true → (a : Role) → MayUsePermissionThrough (t₁ .left) j p i s a ↔ MayUsePermissionThrough (t₂ .left) j p i s a
+    through j p i s m a =
+        let x = test-iff (t₁ .left) (t₁ .left-secure .lawful) j p i s a in
+        let y = test-iff (t₂ .left) (t₂ .left-secure .lawful) j p i s a in
+        let d = test-same (inside member) refl (t₁ .left) (t₂ .left) (t₁ .left-secure) (t₂ .left-secure) agree j p i s m a in
+        (λ h. y .0 (sym d ∙ x .1 h), λ h. x .0 (d ∙ y .1 h))
+
     decided : (j p i s : ℕ) → inside member j ≡ true → MayUsePermission (t₁ .left) j p i s ↔ MayUsePermission (t₂ .left) j p i s
-    decided j p i s m =
-        let a = decision-iff (t₁ .left) (t₁ .left-secure .lawful) j p i s in
-        let b = decision-iff (t₂ .left) (t₂ .left-secure .lawful) j p i s in
-        let d = decision-same (inside member) refl (t₁ .left) (t₂ .left) (t₁ .left-secure) (t₂ .left-secure) agree j p i s m in
-        (λ x. b .0 (sym d ∙ a .1 x), λ x. a .0 (d ∙ b .1 x))
+    decided j p i s m = (
+      λ x. record { reached = x .reached; may = through j p i s m (x .reached) .0 (x .may) },
+      λ x. record { reached = x .reached; may = through j p i s m (x .reached) .1 (x .may) },
+    )
+
+    lowest : (j p i s : ℕ) → inside member j ≡ true → (a : Role) → LowestThrough (t₁ .left) j p i s a ↔ LowestThrough (t₂ .left) j p i s a
+    lowest j p i s m a = (
+      λ x. record { may = through j p i s m a .0 (x .may); none-lower = λ b l y. x .none-lower b l (through j p i s m b .1 y) },
+      λ x. record { may = through j p i s m a .1 (x .may); none-lower = λ b l y. x .none-lower b l (through j p i s m b .0 y) },
+    )
 
 -- what reaches an issuer's role is an issuer's
 issuer-below : {e : Graph} {a b : Role} → Numbered e → Reaches e a b → b .issuer < 16 → a .issuer < 16

@@ -3,6 +3,7 @@ use mathlib.Core.Path.{_≡_, refl, ap, _∙_}
 use mathlib.Core.Logic.{_⊎_, inl, inr}
 use mathlib.Core.List.{List, [], _∷_, _++_}
 use mathlib.Core.Bool.{Bool, true, false}
+use mathlib.Core.Option.{none}
 use Prim.Native.Nat.{ℕ, suc}
 use Rattle.mtas.specs.Call.{Call}
 use Rattle.mtas.specs.Answer.{accepts}
@@ -16,7 +17,7 @@ use Rattle.mtas.proofs.Monitor as monitors
 use Rattle.mtas.proofs.Remaining.{remaining}
 
 module _ (ws : List ℕ) (W : LawfulWords ws) where
-  accepted : monitor ws [] ≡ record { answer = accepts 0; words = ws }
+  accepted : monitor ws [] ≡ record { answer = accepts none; words = ws }
   unfolding decode
   accepted = monitors.monitor-idle ws [] W sign-of-life refl refl
 

@@ -1,22 +1,20 @@
 -- The unwinding's second half: in two secure states that agree, a call from inside gets one answer and leaves them agreeing.
-use mathlib.Core.Path.{_≡_, refl, ap, sym, _∙_}
+use mathlib.Core.Path.{_≡_, refl, ap, sym, _∙_, fun-ext}
 use mathlib.Core.Bool.{Bool, true, false, _&&_}
 use Prim.Native.Nat.{ℕ}
-use Rattle.bits.specs.Below.{any-below}
-use Rattle.bits.specs.Bit.{digit}
-use Rattle.bits.proofs.Booleans.{clash, untrue}
-use Rattle.bits.proofs.Below.{any-ext, any-both-elim, find-ext}
+use Rattle.bits.proofs.Below.{any-ext, find-ext}
 use Rattle.mtas.specs.Fact.{enrolled, trusts, role, public, granted, opened, active}
 use Rattle.mtas.specs.State.{State, cut, user-of}
-use Rattle.mtas.specs.Hierarchy.{Role, _#_, Graph}
+use Rattle.mtas.specs.Hierarchy.{Role, _#_, Graph, reaches}
 use Rattle.mtas.specs.Law.{attachments, holders-of}
 use Rattle.mtas.specs.Call.{Call}
 use Rattle.mtas.specs.Rule.{Effect, puts, cuts, decides, rule}
-use Rattle.mtas.specs.Answer.{accepts, Outcome, accepted, refused, outcome, leads-to, may-use, decides-on, verdict-of, change, reply, after, answer, next}
+use Rattle.mtas.specs.Answer.{accepts, Outcome, accepted, refused, outcome, may-use-through, lowest-role, lookup, found, change, reply, after, answer, next}
+use Rattle.mtas.proofs.Hierarchy.{reaches-sound}
 use Rattle.mtas.proofs.Facts.{put-agree, cut-agree}
 use Rattle.mtas.proofs.Authorized.{attachments-numbered}
 use Rattle.mtas.proofs.Law.{grant-trust, cut-rooted}
-use Rattle.mtas.proofs.Walks.{Twin, reaches-same, leads-same, leads-from-inside}
+use Rattle.mtas.proofs.Walks.{Twin, from-inside, reaches-same}
 use Rattle.mtas.proofs.Alike.{SeenAlike, row-alike, outcome-alike}
 use Rattle.mtas.proofs.Isolation.{Secure, Agree, carries, authorized-same, settle-agree, trust-inside, trustor-inside, upwards, cut-upwards}
 
@@ -40,23 +38,48 @@ module _ (inside : ℕ → Bool) (op : inside 16 ≡ true) where
       only-inside = λ b g. trustor-inside inside op st S (b .issuer) j (grant-trust st (S .lawful) g) h;
     }
 
-    may-use-same : {e e' : Graph} {t t' : Role → Bool} → Twin inside e e' t t' → (i s : ℕ) → may-use st e t i s ≡ may-use st' e' t' i s
-    unfolding may-use
-    may-use-same {e} {e'} {t} {t'} T i s = go (inside i) refl
+    -- the roles through which a session may use it are the same: what reaches an inside role is inside
+    through-same : {e e' : Graph} {t t' : Role → Bool} → Twin inside e e' t t' → (i s : ℕ) (b : Role) → may-use-through st e t i s b ≡ may-use-through st' e' t' i s b
+    unfolding may-use-through
+    through-same {e} {e'} {t} {t'} T i s b = go (t b) refl
       where
-        never : (x : State) (u : ℕ) (f : Role → Bool) → ((r : ℕ) → f (i # r) ≡ true → ⊥) → any-below 16 (λ r. x .stands (active i s u r) && f (i # r)) ≡ false
-        never x u f n = untrue _ (λ d. let (r, l, a, w) = any-both-elim 16 (λ r. x .stands (active i s u r)) (λ r. f (i # r)) d in n r w)
+        on : State → ℕ → Bool
+        on x r = x .stands (active i s (user-of x i s) r)
 
-        go : (b : Bool) → inside i ≡ b → may-use st e t i s ≡ may-use st' e' t' i s
+        each : inside (b .issuer) ≡ true → (r : ℕ) → (on st r && reaches e (i # r) b) ≡ (on st' r && reaches e' (i # r) b)
+        each h r = by (reaches e (i # r) b) refl
+          where
+            q : reaches e (i # r) b ≡ reaches e' (i # r) b
+            q = reaches-same inside (T .there) (T .back) (T .numbered) (T .numbered') (i # r) b h
+
+            never : (x y : Bool) {z w : Bool} → z ≡ false → w ≡ false → (x && z) ≡ (y && w)
+            never true true m n = m ∙ sym n
+            never true false m n = m
+            never false true m n = sym n
+            never false false m n = refl
+
+            by : (x : Bool) → reaches e (i # r) b ≡ x → (on st r && reaches e (i # r) b) ≡ (on st' r && reaches e' (i # r) b)
+            by true k =
+                let o = (from-inside inside (T .there) (reaches-sound e (i # r) b k) h) .0 in
+                let u = user-same st st' S S' A i s o in
+                let m = A (active i s (user-of st i s) r) o in
+                cc q
+            by false k = never (on st r) (on st' r) k (sym q ∙ k)
+
+        go : (x : Bool) → t b ≡ x → may-use-through st e t i s b ≡ may-use-through st' e' t' i s b
         go true h =
-            any-ext 16 (λ r. st .stands (active i s (user-of st i s) r) && leads-to e t (i # r)) (λ r. st' .stands (active i s (user-of st' i s) r) && leads-to e' t' (i # r))
-            (λ r. let w = user-same st st' S S' A i s h in let k = A (active i s (user-of st i s) r) h in let o = leads-same inside T (i # r) in cc)
-        go false h =
-            never st (user-of st i s) (leads-to e t) (λ r o. clash (leads-from-inside inside T (i # r) o) h)
-            ∙ sym (never st' (user-of st' i s) (leads-to e' t') (λ r o. clash (leads-from-inside inside T (i # r) (leads-same inside T (i # r) ∙ o)) h))
+            let k = T .same b in
+            let q = any-ext 16 (λ r. on st r && reaches e (i # r) b) (λ r. on st' r && reaches e' (i # r) b) (each (T .only-inside b h)) in
+            cc
+        go false h = let k = T .same b in cc
 
-    pub decision-same : (j p i s : ℕ) → inside j ≡ true → decides-on st j p i s ≡ decides-on st' j p i s
-    decision-same j p i s h = may-use-same (twin j p h) i s
+    pub test-same : (j p i s : ℕ) → inside j ≡ true → (b : Role)
+        → may-use-through st (attachments st) (holders-of st j p) i s b ≡ may-use-through st' (attachments st') (holders-of st' j p) i s b
+    test-same j p i s h = through-same (twin j p h) i s
+
+    lookup-same : (j p i s : ℕ) → inside j ≡ true → lookup st j p i s ≡ lookup st' j p i s
+    unfolding lookup
+    lookup-same j p i s h = ap lowest-role (fun-ext (test-same j p i s h))
 
     -- trust in a member, also an outsider's: there is none
     trust-same : (i c : ℕ) → inside c ≡ true → st .stands (trusts i c) ≡ st' .stands (trusts i c)
@@ -82,13 +105,13 @@ module _ (inside : ℕ → Bool) (op : inside 16 ≡ true) where
         of-authorized = λ u r. authorized-same inside st st' (S .lawful .numbered) (S' .lawful .numbered) (upwards inside op st S) (upwards inside op st' S') A c u r h;
       }
 
-      verdict-same : (e : Effect) → verdict-of st c e ≡ verdict-of st' c e
-      verdict-same (puts l) = refl
-      verdict-same (cuts f) = refl
-      verdict-same (decides p i s) = ap digit (decision-same c p i s h)
+      found-same : (e : Effect) → found st c e ≡ found st' c e
+      found-same (puts l) = refl
+      found-same (cuts f) = refl
+      found-same (decides p i s) = lookup-same c p i s h
 
       reply-same : (e : Effect) (o : Outcome) → reply st c e o ≡ reply st' c e o
-      reply-same e accepted = ap accepts (verdict-same e)
+      reply-same e accepted = ap accepts (found-same e)
       reply-same e (refused n) = refl
 
       pub answer-same : answer st c k ≡ answer st' c k

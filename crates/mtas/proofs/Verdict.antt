@@ -1,102 +1,107 @@
--- Demand 2 on words and bytes: the verdict is 1 exactly for an accepted kind 21 of a session that may use the permission.
+-- Demand 2 on words and bytes: the verdict is 1 exactly for an accepted kind 21 of a session that may use the permission; what every answer says.
 use mathlib.Core.Path.{_≡_, refl, ap, sym, _∙_}
 use mathlib.Core.Logic.{_↔_, _⊎_, inl, inr}
+use mathlib.Core.Option.{Option, none, some}
 use mathlib.Core.List.{List}
-use mathlib.Core.Bool.{Bool, true, false}
 use Prim.Native.Nat.{ℕ, suc}
-use Rattle.bits.specs.Bit.{digit}
 use Rattle.mtas.specs.State.{State, user-of}
+use Rattle.mtas.specs.Hierarchy.{Role, _#_}
 use Rattle.mtas.specs.Call.{Call, AddIssuer, RemoveIssuer, AssignTrust, RevokeTrust, AddUser, RemoveUser, AddRole, RemoveRole, AddPerm, RemovePerm, AssignUser, RevokeUser, AssignPerm, RevokePerm, AssignRH, RevokeRH, CreateSession, DeleteSession, AddActiveRole, DropActiveRole, CheckAccess, PublishRole, UnpublishRole}
-use Rattle.mtas.specs.Rule.{Effect, puts, cuts, decides, rule}
-use Rattle.mtas.specs.Answer.{Outcome, accepted, refused, outcome, decides-on, verdict-of, reply, answer}
+use Rattle.mtas.specs.Rule.{rule}
+use Rattle.mtas.specs.Answer.{Answer, verdict-of, accepts, Outcome, accepted, refused, outcome, lookup, found, answer}
 use Rattle.mtas.specs.Layout.{view}
 use Rattle.mtas.specs.LawTest.{LawfulWords}
 use Rattle.mtas.specs.Record.{Request, sign-of-life, undecodable, request, decode}
-use Rattle.mtas.specs.Monitor.{Result, turned-down, answered, monitor}
+use Rattle.mtas.specs.Monitor.{turned-down, answered, monitor}
 use Rattle.mtas.specs.Decision.{Entitled}
+use Rattle.mtas.specs.Through.{LowestThrough}
 use Rattle.mtas.proofs.Step.{differ, refused-answer}
-use Rattle.mtas.proofs.Decision.{decision-iff}
-use Rattle.mtas.proofs.Monitor.{accepted-zero, zero-accepted, monitor-lawful, monitor-cases}
-
-digit-true : (b : Bool) → digit b ≡ 1 → b ≡ true
-digit-true true h = refl
-digit-true false h = absurd (differ h)
+use Rattle.mtas.proofs.Decision.{lookup-iff, none-iff}
+use Rattle.mtas.proofs.Monitor.{zero-accepted, monitor-lawful, monitor-cases}
 
 -- every verdict is 1 or 0
 abbrev pub OneOr0 : ℕ → Type 0
 OneOr0 v = (v ≡ 1) ⊎ (v ≡ 0)
 
-digits : (x : Bool) → OneOr0 (digit x)
-digits true = inl refl
-digits false = inr refl
-
-effects : (st : State) (c : ℕ) (e : Effect) → OneOr0 (verdict-of st c e)
-effects st c (puts l) = inr refl
-effects st c (cuts f) = inr refl
-effects st c (decides p i s) = digits (decides-on st c p i s)
+-- what an accepted call looks up: nothing, or for kind 21 the lookup
+data LookedUp (st : State) (c : ℕ) (k : Call) : Option Role → Type 0 where
+  nothing : LookedUp st c k none
+  asked : {p i s : ℕ} → k ≡ CheckAccess p i s → LookedUp st c k (lookup st c p i s)
 
 -- 'The verdict is 1 only for kind 21'
-checks : (st : State) (c : ℕ) (k : Call) → verdict-of st c (rule (user-of st c) c k .effect) ≡ 1 → (p i s : ℕ) × (k ≡ CheckAccess p i s) × (decides-on st c p i s ≡ true)
-checks st c (AddIssuer i) h = absurd (differ h)
-checks st c (RemoveIssuer i) h = absurd (differ h)
-checks st c (AssignTrust j) h = absurd (differ h)
-checks st c (RevokeTrust j) h = absurd (differ h)
-checks st c (AddUser u) h = absurd (differ h)
-checks st c (RemoveUser u) h = absurd (differ h)
-checks st c (AddRole r) h = absurd (differ h)
-checks st c (RemoveRole r) h = absurd (differ h)
-checks st c (AddPerm p) h = absurd (differ h)
-checks st c (RemovePerm p) h = absurd (differ h)
-checks st c (AssignUser u r) h = absurd (differ h)
-checks st c (RevokeUser u r) h = absurd (differ h)
-checks st c (AssignPerm p i r) h = absurd (differ h)
-checks st c (RevokePerm p i r) h = absurd (differ h)
-checks st c (AssignRH q i r) h = absurd (differ h)
-checks st c (RevokeRH q i r) h = absurd (differ h)
-checks st c (CreateSession s u) h = absurd (differ h)
-checks st c (DeleteSession s) h = absurd (differ h)
-checks st c (AddActiveRole s r) h = absurd (differ h)
-checks st c (DropActiveRole s r) h = absurd (differ h)
-checks st c (CheckAccess p i s) h = (p, i, s, refl, digit-true (decides-on st c p i s) h)
-checks st c (PublishRole r) h = absurd (differ h)
-checks st c (UnpublishRole r) h = absurd (differ h)
+looked-up : (st : State) (c : ℕ) (k : Call) → LookedUp st c k (found st c (rule (user-of st c) c k .effect))
+looked-up st c (AddIssuer i) = nothing
+looked-up st c (RemoveIssuer i) = nothing
+looked-up st c (AssignTrust j) = nothing
+looked-up st c (RevokeTrust j) = nothing
+looked-up st c (AddUser u) = nothing
+looked-up st c (RemoveUser u) = nothing
+looked-up st c (AddRole r) = nothing
+looked-up st c (RemoveRole r) = nothing
+looked-up st c (AddPerm p) = nothing
+looked-up st c (RemovePerm p) = nothing
+looked-up st c (AssignUser u r) = nothing
+looked-up st c (RevokeUser u r) = nothing
+looked-up st c (AssignPerm p i r) = nothing
+looked-up st c (RevokePerm p i r) = nothing
+looked-up st c (AssignRH q i r) = nothing
+looked-up st c (RevokeRH q i r) = nothing
+looked-up st c (CreateSession s u) = nothing
+looked-up st c (DeleteSession s) = nothing
+looked-up st c (AddActiveRole s r) = nothing
+looked-up st c (DropActiveRole s r) = nothing
+looked-up st c (CheckAccess p i s) = asked refl
+looked-up st c (PublishRole r) = nothing
+looked-up st c (UnpublishRole r) = nothing
+
+-- an answer without a yes, or with one: to kind 21, through the lowest role
+pub data Says (ws b : List ℕ) (x : Answer) : Type 0 where
+  no-yes : x .verdict ≡ 0 → x .through ≡ 255 # 255 → Says ws b x
+  a-yes : LawfulWords ws → {c p i s : ℕ} {a : Role} → decode b ≡ request c (CheckAccess p i s) → LowestThrough (view ws) c p i s a → x ≡ accepts (some a) → Says ws b x
 
 module _ (ws b : List ℕ) where
-  abbrev SaysYes : Result → Type 0
-  SaysYes r = r .answer .verdict ≡ 1
-
-  said : SaysYes (monitor ws b) → Entitled ws b
+  pub says : Says ws b ((monitor ws b) .answer)
   unfolding answer
-  said h = go (monitor-cases ws b)
+  says = go (monitor-cases ws b)
     where
-      answered-so : LawfulWords ws → answered (view ws) (decode b) ≡ (monitor ws b) .answer
-      answered-so W = sym (ap (λ r. r .answer) (monitor-lawful ws b W))
-
-      by : LawfulWords ws → (x : Request) → decode b ≡ x → answered (view ws) x .verdict ≡ 1 → Entitled ws b
-      by W sign-of-life d v = absurd (differ v)
-      by W undecodable d v = absurd (differ v)
-      by W (request c k) d v = on (outcome (view ws) c k) refl
+      looks : LawfulWords ws → {c : ℕ} {k : Call} {o : Option Role} → decode b ≡ request c k → LookedUp (view ws) c k o → Says ws b (accepts o)
+      looks W d nothing = no-yes refl refl
+      looks W {c} d (asked {p} {i} {s} e) = on (lookup (view ws) c p i s) refl
         where
-          on : (o : Outcome) → outcome (view ws) c k ≡ o → Entitled ws b
-          on (refused n) e = absurd (differ (ap (λ a. a .verdict) (sym (refused-answer (view ws) c k n e)) ∙ v))
-          on accepted e =
-              let (p, i, s, is, m) = checks (view ws) c k (rw e at v) in
-              record {
-                owner = c;
-                asked = p;
-                its-issuer = i;
-                session = s;
-                lawful = W;
-                is-check = d ∙ ap (request c) is;
-                is-accepted = ap (λ a. a .refusal) (sym (answered-so W)) ∙ ap (λ x. answered (view ws) x .refusal) d ∙ accepted-zero (view ws) c k e;
-                may = decision-iff (view ws) (W .lawful) c p i s .0 m;
-              }
+          on : (o : Option Role) → lookup (view ws) c p i s ≡ o → Says ws b (accepts o)
+          on none q = no-yes refl refl
+          on (some a) q = a-yes W (d ∙ ap (request c) e) (lookup-iff (view ws) (W .lawful) c p i s a .0 q) refl
 
-      go : (LawfulWords ws) ⊎ ((n : ℕ) × (monitor ws b ≡ turned-down (suc n) ws)) → Entitled ws b
-      go (inl W) = by W (decode b) refl (ap (λ a. a .verdict) (answered-so W) ∙ h)
-      go (inr (n, e)) = absurd (differ (ap (λ r. r .answer .verdict) (sym e) ∙ h))
+      by : LawfulWords ws → (x : Request) → decode b ≡ x → Says ws b (answered (view ws) x)
+      by W sign-of-life d = no-yes refl refl
+      by W undecodable d = no-yes refl refl
+      by W (request c k) d = on (outcome (view ws) c k) refl
+        where
+          on : (o : Outcome) → outcome (view ws) c k ≡ o → Says ws b (answer (view ws) c k)
+          on (refused n) e = rw (refused-answer (view ws) c k n e) (no-yes refl refl)
+          on accepted e = rw e (looks W d (looked-up (view ws) c k))
 
-  entitled : Entitled ws b → SaysYes (monitor ws b)
+      go : (LawfulWords ws) ⊎ ((n : ℕ) × (monitor ws b ≡ turned-down (suc n) ws)) → Says ws b ((monitor ws b) .answer)
+      go (inl W) = rw (monitor-lawful ws b W) (by W (decode b) refl)
+      go (inr (n, e)) = rw e (no-yes refl refl)
+
+  said : (monitor ws b) .answer .verdict ≡ 1 → Entitled ws b
+  said h = go says
+    where
+      go : Says ws b ((monitor ws b) .answer) → Entitled ws b
+      go (no-yes z t) = absurd (differ (sym z ∙ h))
+      go (a-yes W {c} {p} {i} {s} {a} d l x) = record {
+        owner = c;
+        asked = p;
+        its-issuer = i;
+        session = s;
+        lawful = W;
+        is-check = d;
+        is-accepted = ap (λ y. y .refusal) x;
+        may = record { reached = a; may = l .may };
+      }
+
+  entitled : Entitled ws b → (monitor ws b) .answer .verdict ≡ 1
   unfolding answer
   entitled E = ap (λ r. r .answer .verdict) (monitor-lawful ws b (E .lawful)) ∙ ap (λ x. answered (view ws) x .verdict) (E .is-check) ∙ yes (zero-accepted (view ws) (E .owner) call zero-told)
     where
@@ -106,29 +111,23 @@ module _ (ws b : List ℕ) where
       zero-told : answer (view ws) (E .owner) call .refusal ≡ 0
       zero-told = ap (λ x. answered (view ws) x .refusal) (sym (E .is-check)) ∙ ap (λ r. r .answer .refusal) (sym (monitor-lawful ws b (E .lawful))) ∙ E .is-accepted
 
+      one : (o : Option Role) → lookup (view ws) (E .owner) (E .asked) (E .its-issuer) (E .session) ≡ o → verdict-of o ≡ 1
+      one (some a) e = refl
+      one none e = absurd (none-iff (view ws) (E .lawful .lawful) (E .owner) (E .asked) (E .its-issuer) (E .session) .0 e (E .may))
+
       yes : outcome (view ws) (E .owner) call ≡ accepted → answer (view ws) (E .owner) call .verdict ≡ 1
-      yes e = rw e (ap digit (decision-iff (view ws) (E .lawful .lawful) (E .owner) (E .asked) (E .its-issuer) (E .session) .1 (E .may)))
+      yes e = rw e (one (lookup (view ws) (E .owner) (E .asked) (E .its-issuer) (E .session)) refl)
 
   pub verdict-iff : ((monitor ws b) .answer .verdict ≡ 1) ↔ Entitled ws b
   verdict-iff = (said, entitled)
 
   -- 'else 0'
   pub two-verdicts : OneOr0 ((monitor ws b) .answer .verdict)
-  unfolding answer
-  two-verdicts = go (monitor-cases ws b)
+  two-verdicts = go says
     where
-      replies : (st : State) (c : ℕ) (e : Effect) (o : Outcome) → OneOr0 (reply st c e o .verdict)
-      replies st c e accepted = effects st c e
-      replies st c e (refused n) = inr refl
-
-      by : (x : Request) → OneOr0 (answered (view ws) x .verdict)
-      by sign-of-life = inr refl
-      by undecodable = inr refl
-      by (request c k) = replies (view ws) c (rule (user-of (view ws) c) c k .effect) (outcome (view ws) c k)
-
-      go : (LawfulWords ws) ⊎ ((n : ℕ) × (monitor ws b ≡ turned-down (suc n) ws)) → OneOr0 ((monitor ws b) .answer .verdict)
-      go (inl W) = rw (monitor-lawful ws b W) (by (decode b))
-      go (inr (n, e)) = inr (ap (λ r. r .answer .verdict) e)
+      go : Says ws b ((monitor ws b) .answer) → OneOr0 ((monitor ws b) .answer .verdict)
+      go (no-yes z t) = inr z
+      go (a-yes W d l x) = inl (ap (λ y. y .verdict) x)
 
   pub else-0 : (Entitled ws b → ⊥) → (monitor ws b) .answer .verdict ≡ 0
   else-0 n = go two-verdicts

@@ -18,6 +18,7 @@ pub mod Monitor
 pub mod Decision
 pub mod Access
 pub mod Chain
+pub mod Through
 pub mod Disclosure
 pub mod PublicRoles
 pub mod Activation

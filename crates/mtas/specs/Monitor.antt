@@ -1,6 +1,7 @@
 -- The reference monitor (document 01's desk) on words: starting, and a record played on a state.
 use mathlib.Core.List.{List}
 use mathlib.Core.Bool.{true, false}
+use mathlib.Core.Option.{none}
 use Prim.Native.Nat.{ℕ}
 use lib.Dec.{eqb}
 use lib.ListN.{length}
@@ -31,11 +32,11 @@ initial-words = tabulate state-length (λ k. initial (cell (word-at k)))
 
 -- 'Starting gives only 0 or 1'
 unfoldable pub start : List ℕ → Result
-start ws = elim (eqb (length ws) state-length) [ false ↦ turned-down 1 ws | true ↦ record { answer = accepts 0; words = initial-words } ]
+start ws = elim (eqb (length ws) state-length) [ false ↦ turned-down 1 ws | true ↦ record { answer = accepts none; words = initial-words } ]
 
 -- a decoded record on a lawful state: 'accepted with verdict 0' and 'changes no word', refusal 3, or the table's answer
 abbrev pub answered : State → Request → Answer
-answered st sign-of-life = record { refusal = bytes-refusal sign-of-life; verdict = 0 }
+answered st sign-of-life = refuses (bytes-refusal sign-of-life)
 answered st undecodable = refuses (bytes-refusal undecodable)
 answered st (request c k) = answer st c k
 

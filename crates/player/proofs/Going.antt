@@ -1,5 +1,5 @@
 -- A turn of the player, and a journal that is played up to a byte place: what is printed and what is to come make up the whole text.
-use mathlib.Core.Path.{_≡_, refl, sym, _∙_}
+use mathlib.Core.Path.{_≡_, refl, ap, sym, _∙_}
 use mathlib.Core.Logic.{⊎-elim}
 use mathlib.Core.List.{List, [], _∷_, _++_, append-nil, append-assoc}
 use Prim.Native.Nat.{ℕ, suc, _+_, _-_, _*_, _^_, _≤_, _<_}
@@ -25,18 +25,19 @@ use Rattle.lines.specs.Text.{text-of, text-of-all}
 use Rattle.lines.specs.Written.{Exactly, Appended}
 use Rattle.lines.specs.declared.Buffer.{Buffer}
 use Rattle.lines.proofs.Decimal.{few}
-use Rattle.monitor.specs.Contract.{Gives}
+use Rattle.monitor.specs.declared.Answer.{Answer}
+use Rattle.monitor.specs.Contract.{answer-of, Gives}
 use Rattle.player.specs.Played.{room, left-by, Played}
 use Rattle.player.specs.Turned.{Turned}
 
 -- ---- one turn, by what was found
 module _ {ws left : List ℕ} {at count : ℕ} {found : Found} {line : Buffer} (near : at ≤ journal-limit) (early : count ≤ at) where
-  pub turn-played : {ws′ bytes : List ℕ} {len kind caller refusal verdict : ℕ} → found ≡ Whole len → bytes ≡ take len left
-      → Gives (monitor ws bytes) refusal verdict ws′ → kind ≡ kind-of bytes → caller ≡ caller-of bytes
-      → Exactly line (text-of (played (count + 1) kind caller refusal verdict)) × (count + 1 < 100000 → line .len ≤ 28)
+  pub turn-played : {ws′ bytes : List ℕ} {len kind caller : ℕ} {answer : Answer} → found ≡ Whole len → bytes ≡ take len left
+      → Gives (monitor ws bytes) (answer-of answer) ws′ → kind ≡ kind-of bytes → caller ≡ caller-of bytes
+      → Exactly line (text-of (played (count + 1) kind caller (answer .refusal) (answer .verdict))) × (count + 1 < 100000 → line .len ≤ 28)
       → Turned ws left at count found ws′ line
   turn-played f b v k c (w, s) =
-      rw f (record { words = rw b at (v .same-words); text = rw (k, c, v .same-refusal, v .same-verdict, b) at w; short = s (omega arith) })
+      rw f (record { words = rw b at (v .same-words); text = rw (k, c, ap (λ a. a .refusal) (v .same-answer), ap (λ a. a .verdict) (v .same-answer), b) at w; short = s (omega arith) })
 
   pub turn-end : found ≡ NoMore → Exactly line (text-of (end count)) → Turned ws left at count found ws line
   unfolding text-of
@@ -79,7 +80,7 @@ pub record Going (journal ws out : List ℕ) (used at count : ℕ) : Type 0 wher
   pub printed : take used out ++ text-of-all (lines-from (suc count) ws (rest journal at count .records) ++ (last-line (read-journal journal .records) (read-journal journal .ending) ∷ [])) ≡ text-of-all (output journal)
   pub leaves : (before : List ℕ) → final ws (rest journal at count .records) ≡ left-by before journal
 
-pub going-start : (ws : List ℕ) {journal vs out : List ℕ} {refusal verdict : ℕ} → length ws ≡ state-length → Gives (start ws) refusal verdict vs → length journal ≤ journal-limit → length out ≡ room → Going journal vs out 0 0 0
+pub going-start : (ws : List ℕ) {journal vs out : List ℕ} {answer : Answer} → length ws ≡ state-length → Gives (start ws) (answer-of answer) vs → length journal ≤ journal-limit → length out ≡ room → Going journal vs out 0 0 0
 unfolding start output left-by
 going-start ws {journal} n v l m =
     let e : length journal - 0 ≡ length journal = omega arith in

@@ -12,7 +12,7 @@ use borrow.Author.Tests.{eq-eqb, le-ltb}
 use Rattle.bits.specs.Below.{any-below}
 use Rattle.mtas.specs.Monitor.{monitor}
 use Rattle.mtas.specs.Record.{record-of, encode-call}
-use Rattle.monitor.specs.Contract.{Gives}
+use Rattle.monitor.specs.Contract.{answer-of, Gives}
 use Rattle.monitor.specs.declared.Answer as desk
 use Rattle.record.specs.Encoded.{Holds}
 use Rattle.record.specs.declared.Encoded.{Encoded}
@@ -92,13 +92,13 @@ module _ (owners stages : List ℕ) (press action : ℕ) where
 
 -- ---- the question
 module _ (ws : List ℕ) (owner action i s : ℕ) {made : Encoded} (h : Holds made (record-of 21 owner (action ∷ i ∷ s ∷ []))) {a : desk.Answer} {vs : List ℕ}
-    (g : Gives (monitor ws (take (made .len) (made .bytes))) (a .refusal) (a .verdict) vs) where
+    (g : Gives (monitor ws (take (made .len) (made .bytes))) (answer-of a) vs) where
   is-question : take (made .len) (made .bytes) ≡ question owner action i s
   unfolding encode-call
   is-question = h .text
 
   pub is-answered : eqb (a .verdict) 0 || not (eqb (a .refusal) 0) ≡ turned-away (answered ws owner action i s)
-  is-answered = rw (g .same-verdict, g .same-refusal, is-question)
+  is-answered = ap turned-away (g .same-answer ∙ ap (λ b. (monitor ws b) .answer) is-question)
 
   pub words-kept : vs ≡ ws
   words-kept = g .same-words ∙ ap (λ b. (monitor ws b) .words) is-question ∙ words-left ws owner action i s

@@ -2,18 +2,19 @@
 use mathlib.Core.Path.{_≡_, refl, ap, subst, _∙_}
 use mathlib.Core.List.{List, [], _∷_, _++_}
 use mathlib.Core.Bool.{true, false, decide}
+use mathlib.Core.Option.{none, some}
 use Prim.Native.Nat.{ℕ, zero, suc, _+_, _*_, _<_}
 use native.Mathlib.Decide.{ℕ-discrete}
 use native.Mathlib.Omega.{arith}
 use lib.ListN.{replicate, replicate-append-replicate}
-use Rattle.bits.specs.Below.{any-below, find-below}
+use Rattle.bits.specs.Below.{any-below, find-below, lowest-below}
 use Rattle.bits.proofs.Booleans.{clash}
 use Rattle.mtas.specs.Fact.{Fact, trusts, same}
 use Rattle.mtas.specs.Needs.{exposed}
 use Rattle.mtas.specs.State.{State, listed, put, cut}
-use Rattle.mtas.specs.Hierarchy.{within}
+use Rattle.mtas.specs.Hierarchy.{_#_, within}
 use Rattle.mtas.specs.Settle.{authorized, settle}
-use Rattle.mtas.specs.Answer.{Answer, accepts, first-cause, outcome, leads-to, may-use, answer, next}
+use Rattle.mtas.specs.Answer.{Answer, accepts, first-cause, outcome, may-use-through, lowest-role, lookup, answer, next}
 use Rattle.mtas.specs.Layout.{view}
 use Rattle.mtas.specs.Record.{decode, encode-call}
 use Rattle.mtas.specs.Monitor.{monitor}
@@ -45,13 +46,17 @@ abbrev in-others : ℕ → List Fact
 in-others zero = []
 in-others (suc n) = trusts 0 (suc n) ∷ in-others n
 
-says-yes : EveryOnStates (asked granting (accepts 1) [])
-unfolding after-all encode-call decode answer next outcome first-cause leads-to may-use authorized settle within put cut listed same exposed decide ℕ-discrete any-below find-below
+-- a yes through 0#2
+abbrev through-2 : Answer
+through-2 = accepts (some (0 # 2))
+
+says-yes : EveryOnStates (asked granting through-2 [])
+unfolding after-all encode-call decode answer next outcome first-cause may-use-through lowest-role lookup authorized settle within put cut listed same exposed decide ℕ-discrete any-below find-below lowest-below
 says-yes = ((refl, tt), ((refl, tt), ((refl, tt), ((refl, tt), ((refl, tt), tt)))))
 
 -- after the withdrawal 0 trusts nobody but itself
-says-no : EveryOnStates (asked withdrawing (accepts 0) (in-others 15))
-unfolding after-all encode-call decode answer next outcome first-cause leads-to may-use authorized settle within put cut listed same exposed decide ℕ-discrete any-below find-below
+says-no : EveryOnStates (asked withdrawing (accepts none) (in-others 15))
+unfolding after-all encode-call decode answer next outcome first-cause may-use-through lowest-role lookup authorized settle within put cut listed same exposed decide ℕ-discrete any-below find-below lowest-below
 says-no = ((refl, (refl, (refl, (refl, (refl, (refl, (refl, (refl, (refl, (refl, (refl, (refl, (refl, (refl, (refl, (refl, tt)))))))))))))))), ((refl, tt), ((refl, tt), ((refl, tt), ((refl, tt), tt)))))
 
 -- ---- the floor, with the desk's answers: one request more
@@ -65,30 +70,30 @@ one-cycle : (l : List Request) (out : Outcome) → floor granted-words owners al
     → floor granted-words owners all-idle (cycle ++ l) ≡ record { errors = replicate 6 0 ++ out .errors; stages = out .stages }
 unfolding acted misfit any-below next-in
 one-cycle l out h =
-    let yes = every (asked granting (accepts 1) []) says-yes in
-    more granted-words (at idle) load (accepts 1) 0 (at loaded) (yes .0 .0) refl _
-    (more granted-words (at loaded) start (accepts 1) 0 (at pressing) (yes .1 .0 .0) refl _
-    (more granted-words (at pressing) pause (accepts 1) 0 (at held) (yes .1 .1 .0 .0) refl _
-    (more granted-words (at held) resume (accepts 1) 0 (at pressing) (yes .1 .1 .1 .0 .0) refl _
-    (more granted-words (at pressing) pause (accepts 1) 0 (at held) (yes .1 .1 .0 .0) refl _
-    (more granted-words (at held) empty (accepts 1) 0 (at idle) (yes .1 .1 .1 .1 .0 .0) refl l h)))))
+    let yes = every (asked granting through-2 []) says-yes in
+    more granted-words (at idle) load through-2 0 (at loaded) (yes .0 .0) refl _
+    (more granted-words (at loaded) start through-2 0 (at pressing) (yes .1 .0 .0) refl _
+    (more granted-words (at pressing) pause through-2 0 (at held) (yes .1 .1 .0 .0) refl _
+    (more granted-words (at held) resume through-2 0 (at pressing) (yes .1 .1 .1 .0 .0) refl _
+    (more granted-words (at pressing) pause through-2 0 (at held) (yes .1 .1 .0 .0) refl _
+    (more granted-words (at held) empty through-2 0 (at idle) (yes .1 .1 .1 .1 .0 .0) refl l h)))))
 
 turned-down : (l : List Request) (out : Outcome) → floor withdrawn-words owners all-idle l ≡ out
     → floor withdrawn-words owners all-idle (cycle ++ l) ≡ record { errors = replicate 6 18 ++ out .errors; stages = out .stages }
 unfolding acted misfit any-below
 turned-down l out h =
-    let no = every (asked withdrawing (accepts 0) (in-others 15)) says-no in
-    more withdrawn-words all-idle load (accepts 0) 18 all-idle (no .0 .0) refl _
-    (more withdrawn-words all-idle start (accepts 0) 18 all-idle (no .1 .0 .0) refl _
-    (more withdrawn-words all-idle pause (accepts 0) 18 all-idle (no .1 .1 .0 .0) refl _
-    (more withdrawn-words all-idle resume (accepts 0) 18 all-idle (no .1 .1 .1 .0 .0) refl _
-    (more withdrawn-words all-idle pause (accepts 0) 18 all-idle (no .1 .1 .0 .0) refl _
-    (more withdrawn-words all-idle empty (accepts 0) 18 all-idle (no .1 .1 .1 .1 .0 .0) refl l h)))))
+    let no = every (asked withdrawing (accepts none) (in-others 15)) says-no in
+    more withdrawn-words all-idle load (accepts none) 18 all-idle (no .0 .0) refl _
+    (more withdrawn-words all-idle start (accepts none) 18 all-idle (no .1 .0 .0) refl _
+    (more withdrawn-words all-idle pause (accepts none) 18 all-idle (no .1 .1 .0 .0) refl _
+    (more withdrawn-words all-idle resume (accepts none) 18 all-idle (no .1 .1 .1 .0 .0) refl _
+    (more withdrawn-words all-idle pause (accepts none) 18 all-idle (no .1 .1 .0 .0) refl _
+    (more withdrawn-words all-idle empty (accepts none) 18 all-idle (no .1 .1 .1 .1 .0 .0) refl l h)))))
 
 not-paused : (l : List Request) (out : Outcome) → floor withdrawn-words owners (at pressing) l ≡ out
     → floor withdrawn-words owners (at pressing) (on-7 pause ∷ l) ≡ record { errors = replicate 1 18 ++ out .errors; stages = out .stages }
 unfolding acted misfit any-below
-not-paused l out h = more withdrawn-words (at pressing) pause (accepts 0) 18 (at pressing) (every (asked withdrawing (accepts 0) (in-others 15)) says-no .1 .1 .0 .0) refl l h
+not-paused l out h = more withdrawn-words (at pressing) pause (accepts none) 18 (at pressing) (every (asked withdrawing (accepts none) (in-others 15)) says-no .1 .1 .0 .0) refl l h
 
 -- ---- over and over
 once-more : (m n : ℕ) → m + m * n ≡ m * suc n
@@ -110,7 +115,7 @@ module _ (ws stages : List ℕ) (requests : List Request) (m e : ℕ)
 all-tried : Tried tries
 unfolding acted misfit any-below next-in floor
 all-tried =
-    let yes = every (asked granting (accepts 1) []) says-yes in
+    let yes = every (asked granting through-2 []) says-yes in
     let y₀ = yes .0 .0 in
     let y₁ = yes .1 .0 .0 in
     let y₂ = yes .1 .1 .0 .0 in
@@ -118,9 +123,9 @@ all-tried =
     let y₄ = yes .1 .1 .1 .1 .0 .0 in
     (one 0 0 0 1 y₀ refl, (one 1 0 19 0 y₁ refl, (one 2 0 19 0 y₂ refl, (one 3 0 19 0 y₃ refl, (one 4 0 19 0 y₄ refl, (one 0 1 19 1 y₀ refl, (one 1 1 0 2 y₁ refl, (one 2 1 19 1 y₂ refl, (one 3 1 19 1 y₃ refl, (one 4 1 0 0 y₄ refl, (one 0 2 19 2 y₀ refl, (one 1 2 19 2 y₁ refl, (one 2 2 0 3 y₂ refl, (one 3 2 19 2 y₃ refl, (one 4 2 19 2 y₄ refl, (one 0 3 19 3 y₀ refl, (one 1 3 19 3 y₁ refl, (one 2 3 19 3 y₂ refl, (one 3 3 0 2 y₃ refl, (one 4 3 0 0 y₄ refl, tt))))))))))))))))))))
   where
-    one : (a s n t : ℕ) → (monitor granted-words (question 1 a 0 4)) .answer ≡ accepts 1 → acted (accepts 1) granted-words owners (at s) 7 a ≡ result n (at t) granted-words
+    one : (a s n t : ℕ) → (monitor granted-words (question 1 a 0 4)) .answer ≡ through-2 → acted through-2 granted-words owners (at s) 7 a ≡ result n (at t) granted-words
         → floor granted-words owners (at s) (on-7 a ∷ []) ≡ record { errors = n ∷ []; stages = at t }
-    one a s n t e h = more granted-words (at s) a (accepts 1) n (at t) e h [] refl
+    one a s n t e h = more granted-words (at s) a through-2 n (at t) e h [] refl
 
 -- ---- no chain of trust leads from 0 to 1
 not-trusted : (st : State) (n : ℕ) → NoneStand st (in-others n) → (k : ℕ) → k < n → st .stands (trusts 0 (suc k)) ≡ false
@@ -142,7 +147,7 @@ no-way c = let e = chains .chain-iff (view withdrawn-words) 0 1 .0 c (λ j. j �
         go zero h = refl
         go (suc k) h =
             let b = view-numbered withdrawn-words (trusts 0 (suc k)) h in
-            absurd (clash h (not-trusted (view withdrawn-words) 15 (every (asked withdrawing (accepts 0) (in-others 15)) says-no .0 .1) k (omega (arith, b .1 .0))))
+            absurd (clash h (not-trusted (view withdrawn-words) 15 (every (asked withdrawing (accepts none) (in-others 15)) says-no .0 .1) k (omega (arith, b .1 .0))))
 
 pub cycles : Cycles
 cycles = record {

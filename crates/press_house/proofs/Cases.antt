@@ -9,7 +9,7 @@ use native.Mathlib.Omega.{arith}
 use lib.Dec.{eqb}
 use lib.ListN.{length-append}
 use Rattle.bits.specs.Bit.{bit}
-use Rattle.bits.specs.Below.{any-below, find-below}
+use Rattle.bits.specs.Below.{any-below, find-below, lowest-below}
 use Rattle.bits.proofs.Booleans.{clash}
 use Rattle.bits.proofs.Bit.{bit-0}
 use Rattle.bits.proofs.Below.{length-tabulate, getD-tabulate}
@@ -19,7 +19,7 @@ use Rattle.mtas.specs.State.{State, nothing, listed, put, cut}
 use Rattle.mtas.specs.Hierarchy.{itself, within}
 use Rattle.mtas.specs.Law.{In, here, there, attachments, Authorized, Lawful}
 use Rattle.mtas.specs.Settle.{authorized, settle}
-use Rattle.mtas.specs.Answer.{first-cause, outcome, leads-to, may-use, answer, next}
+use Rattle.mtas.specs.Answer.{first-cause, outcome, may-use-through, lowest-role, lookup, answer, next}
 use Rattle.mtas.specs.Layout.{users-at, sessions-at, state-length, encode}
 use Rattle.mtas.specs.LawTest.{LawfulWords}
 use Rattle.mtas.specs.Record.{decode}
@@ -106,49 +106,49 @@ every [] h = tt
 every (c ∷ l) h = (carried c (h .0), every l (h .1))
 
 twelve : EveryOnStates twelve-cases
-unfolding after-all decode answer next outcome first-cause leads-to may-use authorized settle within put cut listed same exposed decide ℕ-discrete any-below find-below
+unfolding after-all decode answer next outcome first-cause may-use-through lowest-role lookup authorized settle within put cut listed same exposed decide ℕ-discrete any-below find-below lowest-below
 twelve = ((refl, tt), ((refl, (refl, tt)), ((refl, tt), ((refl, tt), ((refl, tt), ((refl, tt), ((refl, (refl, (refl, tt))), ((refl, tt), ((refl, tt), ((refl, tt), ((refl, tt), ((refl, tt), tt))))))))))))
 
 pub twelve-hold : Every twelve-cases
 twelve-hold = every twelve-cases twelve
 
 further : EveryOnStates further-cases
-unfolding after-all decode answer next outcome first-cause leads-to may-use authorized settle within put cut listed same exposed decide ℕ-discrete any-below find-below
+unfolding after-all decode answer next outcome first-cause may-use-through lowest-role lookup authorized settle within put cut listed same exposed decide ℕ-discrete any-below find-below lowest-below
 further = ((refl, (refl, tt)), ((refl, (refl, tt)), ((refl, (refl, tt)), ((refl, (refl, tt)), ((refl, tt), ((refl, (refl, tt)), ((refl, (refl, (refl, (refl, tt)))), ((refl, tt), ((refl, (refl, (refl, (refl, tt)))), ((refl, (refl, (refl, (refl, (refl, (refl, tt)))))), ((refl, (refl, (refl, tt))), ((refl, (refl, (refl, tt))), ((refl, (refl, (refl, tt))), ((refl, (refl, tt)), ((refl, tt), ((refl, tt), ((refl, tt), ((refl, tt), ((refl, tt), ((refl, tt), ((refl, tt), ((refl, tt), ((refl, tt), tt)))))))))))))))))))))))
 
 pub further-hold : Every further-cases
 further-hold = every further-cases further
 
 indoors : EveryOnStates indoor-cases
-unfolding after-all decode answer next outcome first-cause leads-to may-use authorized settle within put cut listed same exposed decide ℕ-discrete any-below find-below
+unfolding after-all decode answer next outcome first-cause may-use-through lowest-role lookup authorized settle within put cut listed same exposed decide ℕ-discrete any-below find-below lowest-below
 indoors = ((refl, (refl, tt)), ((refl, tt), ((refl, tt), ((refl, tt), ((refl, (refl, tt)), ((refl, tt), ((refl, (refl, tt)), ((refl, tt), ((refl, (refl, tt)), ((refl, tt), ((refl, (refl, tt)), ((refl, (refl, tt)), ((refl, (refl, (refl, tt))), ((refl, (refl, tt)), ((refl, (refl, tt)), ((refl, (refl, tt)), ((refl, (refl, tt)), ((refl, tt), ((refl, (refl, tt)), ((refl, (refl, tt)), ((refl, tt), ((refl, (refl, tt)), ((refl, (refl, tt)), tt)))))))))))))))))))))))
 
 pub indoor-hold : Every indoor-cases
 indoor-hold = every indoor-cases indoors
 
 lesser : EveryOnStates lesser-cases
-unfolding after-all decode answer next outcome first-cause leads-to may-use authorized settle within put cut listed same exposed decide ℕ-discrete any-below find-below
+unfolding after-all decode answer next outcome first-cause may-use-through lowest-role lookup authorized settle within put cut listed same exposed decide ℕ-discrete any-below find-below lowest-below
 lesser = ((refl, (refl, tt)), ((refl, (refl, (refl, tt))), ((refl, tt), ((refl, tt), ((refl, tt), ((refl, tt), ((refl, tt), ((refl, (refl, tt)), tt))))))))
 
 pub lesser-hold : Every lesser-cases
 lesser-hold = every lesser-cases lesser
 
 dropped : EveryOnStates dropped-cases
-unfolding after-all decode answer next outcome first-cause leads-to may-use authorized settle within put cut listed same exposed decide ℕ-discrete any-below find-below
+unfolding after-all decode answer next outcome first-cause may-use-through lowest-role lookup authorized settle within put cut listed same exposed decide ℕ-discrete any-below find-below lowest-below
 dropped = ((refl, (refl, tt)), ((refl, tt), ((refl, (refl, tt)), ((refl, (refl, (refl, (refl, tt)))), ((refl, (refl, (refl, (refl, tt)))), ((refl, (refl, (refl, tt))), ((refl, (refl, tt)), ((refl, (refl, tt)), tt))))))))
 
 pub dropped-hold : Every dropped-cases
 dropped-hold = every dropped-cases dropped
 
 between : EveryOnStates between-cases
-unfolding after-all decode answer next outcome first-cause leads-to may-use authorized settle within put cut listed same exposed decide ℕ-discrete any-below find-below
+unfolding after-all decode answer next outcome first-cause may-use-through lowest-role lookup authorized settle within put cut listed same exposed decide ℕ-discrete any-below find-below lowest-below
 between = ((refl, (refl, (refl, tt))), ((refl, (refl, tt)), ((refl, (refl, (refl, tt))), tt)))
 
 pub between-hold : Every between-cases
 between-hold = every between-cases between
 
 signs-of-life : EveryOnStates sign-of-life-cases
-unfolding after-all decode answer next outcome first-cause leads-to may-use authorized settle within put cut listed same exposed decide ℕ-discrete any-below find-below
+unfolding after-all decode answer next outcome first-cause may-use-through lowest-role lookup authorized settle within put cut listed same exposed decide ℕ-discrete any-below find-below lowest-below
 signs-of-life = ((refl, tt), ((refl, tt), ((refl, tt), ((refl, tt), ((refl, tt), tt)))))
 
 pub sign-of-life-holds : Every sign-of-life-cases

@@ -4,12 +4,12 @@ use mathlib.Core.List.{List, [], _∷_, _++_}
 use mathlib.Core.Bool.{decide}
 use Prim.Native.Nat.{ℕ, suc, _+_}
 use native.Mathlib.Decide.{ℕ-discrete}
-use Rattle.bits.specs.Below.{any-below, find-below}
+use Rattle.bits.specs.Below.{any-below, find-below, lowest-below}
 use Rattle.mtas.specs.Fact.{same}
 use Rattle.mtas.specs.State.{State, nothing, listed, put, cut}
 use Rattle.mtas.specs.Hierarchy.{within}
 use Rattle.mtas.specs.Law.{Lawful}
-use Rattle.mtas.specs.Answer.{first-cause, outcome, leads-to, may-use, answer, next}
+use Rattle.mtas.specs.Answer.{first-cause, outcome, may-use-through, lowest-role, lookup, answer, next}
 use Rattle.mtas.specs.Layout.{encode}
 use Rattle.mtas.specs.Record.{decode}
 use Rattle.mtas.specs.Monitor.{answered, state-after}
@@ -39,7 +39,7 @@ abbrev ends : List Line → List Line
 ends l = l ++ (last-line (read-example .records) (read-example .ending) ∷ [])
 
 computed : ends (state-lines 1 nothing (read-example .records)) ≡ example-lines
-unfolding state-lines read-from first-of decode answer next outcome first-cause leads-to may-use within put cut listed same decide ℕ-discrete any-below find-below
+unfolding state-lines read-from first-of decode answer next outcome first-cause may-use-through lowest-role lookup within put cut listed same decide ℕ-discrete any-below find-below lowest-below
 computed = refl
 
 pub journal-prints : output example-journal ≡ example-lines

@@ -6,7 +6,8 @@ use Prim.Native.Nat.{ℕ}
 use Rattle.bits.specs.Below.{tabulate}
 use Rattle.mtas.specs.Fact.{Fact, enrolled, trusts, user, role, permission, public, holds, granted, attached, opened, active}
 use Rattle.mtas.specs.State.{State, nothing, put}
-use Rattle.mtas.specs.Answer.{Answer, accepts, refuses}
+use Rattle.mtas.specs.Hierarchy.{_#_}
+use Rattle.mtas.specs.Answer.{Answer}
 use Rattle.mtas.specs.Layout.{state-length, encode, view}
 use Rattle.mtas.specs.Record.{record-of}
 use Rattle.mtas.specs.Monitor.{turned-down, monitor}
@@ -22,17 +23,27 @@ S-facts =
 abbrev pub S : State
 S = put S-facts nothing
 
+-- the answers, number by number
+abbrev pub accepts : Answer
+accepts = record { refusal = 0; verdict = 0; through = 255 # 255 }
+
+abbrev pub says-yes : ℕ → ℕ → Answer
+says-yes i r = record { refusal = 0; verdict = 1; through = i # r }
+
+abbrev pub refuses : ℕ → Answer
+refuses n = record { refusal = n; verdict = 0; through = 255 # 255 }
+
 -- records played from S, the record tried then, its answer, and facts that don't stand then
 pub data Case : Type 0 where
   try : History → List ℕ → Answer → List Fact → Case
 
 abbrev pub twelve-cases : List Case
 twelve-cases =
-    try [] (record-of 21 1 (5 ∷ 0 ∷ 4 ∷ [])) (accepts 1) []  -- A
-    ∷ try (record-of 4 0 (1 ∷ []) ∷ []) (record-of 21 1 (5 ∷ 0 ∷ 4 ∷ [])) (accepts 0) (granted 1 5 0 2 ∷ [])  -- B
-    ∷ try (record-of 20 0 (4 ∷ 2 ∷ []) ∷ []) (record-of 21 1 (5 ∷ 0 ∷ 4 ∷ [])) (accepts 0) []  -- C
+    try [] (record-of 21 1 (5 ∷ 0 ∷ 4 ∷ [])) (says-yes 0 2) []  -- A
+    ∷ try (record-of 4 0 (1 ∷ []) ∷ []) (record-of 21 1 (5 ∷ 0 ∷ 4 ∷ [])) accepts (granted 1 5 0 2 ∷ [])  -- B
+    ∷ try (record-of 20 0 (4 ∷ 2 ∷ []) ∷ []) (record-of 21 1 (5 ∷ 0 ∷ 4 ∷ [])) accepts []  -- C
     ∷ try [] (record-of 21 1 (6 ∷ 0 ∷ 4 ∷ [])) (refuses 10) []  -- D
-    ∷ try [] (record-of 21 1 (5 ∷ 0 ∷ 5 ∷ [])) (accepts 0) []  -- E
+    ∷ try [] (record-of 21 1 (5 ∷ 0 ∷ 5 ∷ [])) accepts []  -- E
     ∷ try [] (record-of 13 1 (5 ∷ 0 ∷ 7 ∷ [])) (refuses 10) []  -- F
     ∷ try [] (record-of 13 0 (0 ∷ 1 ∷ 0 ∷ [])) (refuses 9) (permission 0 0 ∷ role 1 0 ∷ [])  -- G
     ∷ try [] (record-of 15 0 (2 ∷ 0 ∷ 2 ∷ [])) (refuses 13) []  -- H
@@ -65,27 +76,27 @@ then-try b a gone = try (a-day ++ (b ∷ [])) (record-of 21 1 (8 ∷ 0 ∷ 9 ∷
 abbrev pub further-cases : List Case
 further-cases =
     -- 'Stopping after one attachment'
-    try two-links (record-of 21 1 (5 ∷ 0 ∷ 4 ∷ [])) (accepts 1) (granted 1 5 0 2 ∷ [])
+    try two-links (record-of 21 1 (5 ∷ 0 ∷ 4 ∷ [])) (says-yes 1 6) (granted 1 5 0 2 ∷ [])
     -- the lower link goes, or the upper: nothing is reached
-    ∷ try (two-links-and (record-of 16 1 (6 ∷ 0 ∷ 3 ∷ []))) (record-of 21 1 (5 ∷ 0 ∷ 4 ∷ [])) (accepts 0) (attached 1 6 0 3 ∷ [])
-    ∷ try (two-links-and (record-of 16 0 (3 ∷ 0 ∷ 2 ∷ []))) (record-of 21 1 (5 ∷ 0 ∷ 4 ∷ [])) (accepts 0) (attached 0 3 0 2 ∷ [])
+    ∷ try (two-links-and (record-of 16 1 (6 ∷ 0 ∷ 3 ∷ []))) (record-of 21 1 (5 ∷ 0 ∷ 4 ∷ [])) accepts (attached 1 6 0 3 ∷ [])
+    ∷ try (two-links-and (record-of 16 0 (3 ∷ 0 ∷ 2 ∷ []))) (record-of 21 1 (5 ∷ 0 ∷ 4 ∷ [])) accepts (attached 0 3 0 2 ∷ [])
     -- 'Clearing grants on withdrawal and forgetting attachments'
-    ∷ try (two-links-and (record-of 4 0 (1 ∷ []))) (record-of 21 1 (5 ∷ 0 ∷ 4 ∷ [])) (accepts 0) (attached 1 6 0 3 ∷ [])
+    ∷ try (two-links-and (record-of 4 0 (1 ∷ []))) (record-of 21 1 (5 ∷ 0 ∷ 4 ∷ [])) accepts (attached 1 6 0 3 ∷ [])
     -- 'Following trust in place of attachments': 1#6 holds 1%5 and 0 trusts 1, but no attachment leads there
-    ∷ try (record-of 7 1 (6 ∷ []) ∷ record-of 13 1 (5 ∷ 1 ∷ 6 ∷ []) ∷ record-of 14 1 (5 ∷ 0 ∷ 2 ∷ []) ∷ []) (record-of 21 1 (5 ∷ 0 ∷ 4 ∷ [])) (accepts 0) []
+    ∷ try (record-of 7 1 (6 ∷ []) ∷ record-of 13 1 (5 ∷ 1 ∷ 6 ∷ []) ∷ record-of 14 1 (5 ∷ 0 ∷ 2 ∷ []) ∷ []) (record-of 21 1 (5 ∷ 0 ∷ 4 ∷ [])) accepts []
     -- a circle over one link
     ∷ try (record-of 15 0 (3 ∷ 0 ∷ 2 ∷ []) ∷ []) (record-of 15 0 (2 ∷ 0 ∷ 3 ∷ [])) (refuses 13) (attached 0 2 0 3 ∷ [])
     -- striking takes the roles in others' words
     ∷ try (two-links-and (record-of 2 16 (1 ∷ []))) (record-of 21 1 (5 ∷ 0 ∷ 4 ∷ [])) (refuses 5) (attached 1 6 0 3 ∷ granted 1 5 1 6 ∷ trusts 0 1 ∷ [])
     -- a user, a role, a permission added, a role given, activated and used; then one of them removed, taken or closed
-    ∷ try a-day (record-of 21 1 (8 ∷ 0 ∷ 9 ∷ [])) (accepts 1) []
-    ∷ then-try (record-of 6 0 (6 ∷ [])) (accepts 0) (user 0 6 ∷ holds 0 6 7 ∷ opened 0 9 6 ∷ [])
-    ∷ then-try (record-of 8 0 (7 ∷ [])) (accepts 0) (role 0 7 ∷ public 0 7 ∷ holds 0 6 7 ∷ active 0 9 6 7 ∷ granted 1 8 0 7 ∷ [])
+    ∷ try a-day (record-of 21 1 (8 ∷ 0 ∷ 9 ∷ [])) (says-yes 0 7) []
+    ∷ then-try (record-of 6 0 (6 ∷ [])) accepts (user 0 6 ∷ holds 0 6 7 ∷ opened 0 9 6 ∷ [])
+    ∷ then-try (record-of 8 0 (7 ∷ [])) accepts (role 0 7 ∷ public 0 7 ∷ holds 0 6 7 ∷ active 0 9 6 7 ∷ granted 1 8 0 7 ∷ [])
     ∷ then-try (record-of 10 1 (8 ∷ [])) (refuses 10) (permission 1 8 ∷ granted 1 8 0 7 ∷ [])
-    ∷ then-try (record-of 12 0 (6 ∷ 7 ∷ [])) (accepts 0) (holds 0 6 7 ∷ active 0 9 6 7 ∷ [])
-    ∷ then-try (record-of 18 0 (9 ∷ [])) (accepts 0) (opened 0 9 6 ∷ active 0 9 6 7 ∷ [])
+    ∷ then-try (record-of 12 0 (6 ∷ 7 ∷ [])) accepts (holds 0 6 7 ∷ active 0 9 6 7 ∷ [])
+    ∷ then-try (record-of 18 0 (9 ∷ [])) accepts (opened 0 9 6 ∷ active 0 9 6 7 ∷ [])
     -- a session of an issuer that isn't enrolled: no cause of refusal
-    ∷ try [] (record-of 21 1 (5 ∷ 7 ∷ 4 ∷ [])) (accepts 0) (enrolled 7 ∷ [])
+    ∷ try [] (record-of 21 1 (5 ∷ 7 ∷ 4 ∷ [])) accepts (enrolled 7 ∷ [])
     -- refusal 3's row: no caller, a length field too large, kinds 24 and 257, an argument too few
     ∷ try [] (4 ∷ 0 ∷ 1 ∷ 0 ∷ []) (refuses 3) []
     ∷ try [] (7 ∷ 0 ∷ 3 ∷ 0 ∷ 0 ∷ 1 ∷ []) (refuses 3) []
@@ -124,17 +135,17 @@ indoor-cases =
     ∷ try round-trip (record-of 15 1 (6 ∷ 0 ∷ 3 ∷ [])) (refuses 14) (public 0 3 ∷ [])
     ∷ try (round-trip ++ (record-of 22 0 (3 ∷ []) ∷ [])) (record-of 15 1 (6 ∷ 0 ∷ 3 ∷ [])) (refuses 13) []
     -- 0 itself can
-    ∷ try (record-of 9 0 (1 ∷ []) ∷ []) (record-of 13 0 (1 ∷ 0 ∷ 3 ∷ [])) (accepts 0) (public 0 3 ∷ [])
-    ∷ try [] (record-of 15 0 (2 ∷ 0 ∷ 3 ∷ [])) (accepts 0) (public 0 3 ∷ [])
+    ∷ try (record-of 9 0 (1 ∷ []) ∷ []) (record-of 13 0 (1 ∷ 0 ∷ 3 ∷ [])) accepts (public 0 3 ∷ [])
+    ∷ try [] (record-of 15 0 (2 ∷ 0 ∷ 3 ∷ [])) accepts (public 0 3 ∷ [])
     -- 'Unpublishing clears those that used it': 1's grant goes, 0's own stays
-    ∷ try indoors-again (record-of 21 1 (5 ∷ 0 ∷ 4 ∷ [])) (accepts 0) (public 0 2 ∷ granted 1 5 0 2 ∷ [])
-    ∷ try indoors-again (record-of 21 0 (1 ∷ 0 ∷ 4 ∷ [])) (accepts 1) (public 0 2 ∷ [])
+    ∷ try indoors-again (record-of 21 1 (5 ∷ 0 ∷ 4 ∷ [])) accepts (public 0 2 ∷ granted 1 5 0 2 ∷ [])
+    ∷ try indoors-again (record-of 21 0 (1 ∷ 0 ∷ 4 ∷ [])) (says-yes 0 2) (public 0 2 ∷ [])
     -- so of attachments: 1's below 0#3 goes, 0's own below 0#2 stays
-    ∷ try (two-links-and (record-of 23 0 (3 ∷ []))) (record-of 21 1 (5 ∷ 0 ∷ 4 ∷ [])) (accepts 0) (attached 1 6 0 3 ∷ [])
-    ∷ try (two-links-and (record-of 23 0 (2 ∷ []))) (record-of 21 1 (5 ∷ 0 ∷ 4 ∷ [])) (accepts 1) (public 0 2 ∷ [])
+    ∷ try (two-links-and (record-of 23 0 (3 ∷ []))) (record-of 21 1 (5 ∷ 0 ∷ 4 ∷ [])) accepts (attached 1 6 0 3 ∷ [])
+    ∷ try (two-links-and (record-of 23 0 (2 ∷ []))) (record-of 21 1 (5 ∷ 0 ∷ 4 ∷ [])) (says-yes 1 6) (public 0 2 ∷ [])
     -- published again, what was cleared doesn't come back, and can be granted anew
-    ∷ try (record-of 23 0 (2 ∷ []) ∷ record-of 22 0 (2 ∷ []) ∷ []) (record-of 21 1 (5 ∷ 0 ∷ 4 ∷ [])) (accepts 0) (granted 1 5 0 2 ∷ [])
-    ∷ try (record-of 23 0 (2 ∷ []) ∷ record-of 22 0 (2 ∷ []) ∷ []) (record-of 13 1 (5 ∷ 0 ∷ 2 ∷ [])) (accepts 0) []
+    ∷ try (record-of 23 0 (2 ∷ []) ∷ record-of 22 0 (2 ∷ []) ∷ []) (record-of 21 1 (5 ∷ 0 ∷ 4 ∷ [])) accepts (granted 1 5 0 2 ∷ [])
+    ∷ try (record-of 23 0 (2 ∷ []) ∷ record-of 22 0 (2 ∷ []) ∷ []) (record-of 13 1 (5 ∷ 0 ∷ 2 ∷ [])) accepts []
     -- a role that isn't there; one that is public already, or private already
     ∷ try [] (record-of 22 0 (7 ∷ [])) (refuses 10) (role 0 7 ∷ [])
     ∷ try [] (record-of 23 0 (7 ∷ [])) (refuses 10) (role 0 7 ∷ [])
@@ -168,9 +179,9 @@ another's =
 abbrev pub lesser-cases : List Case
 lesser-cases =
     -- the lesser role is activated and used; what only the senior has is not
-    try (record-of 15 0 (3 ∷ 0 ∷ 2 ∷ []) ∷ []) (record-of 19 0 (4 ∷ 3 ∷ [])) (accepts 0) (holds 0 3 3 ∷ [])
-    ∷ try (lesser-role ++ an-hour) (record-of 21 0 (1 ∷ 0 ∷ 4 ∷ [])) (accepts 1) (holds 0 3 3 ∷ active 0 4 3 2 ∷ [])
-    ∷ try (lesser-role ++ an-hour) (record-of 21 1 (5 ∷ 0 ∷ 4 ∷ [])) (accepts 0) []
+    try (record-of 15 0 (3 ∷ 0 ∷ 2 ∷ []) ∷ []) (record-of 19 0 (4 ∷ 3 ∷ [])) accepts (holds 0 3 3 ∷ [])
+    ∷ try (lesser-role ++ an-hour) (record-of 21 0 (1 ∷ 0 ∷ 4 ∷ [])) (says-yes 0 3) (holds 0 3 3 ∷ active 0 4 3 2 ∷ [])
+    ∷ try (lesser-role ++ an-hour) (record-of 21 1 (5 ∷ 0 ∷ 4 ∷ [])) accepts []
     ∷ try lesser-role (record-of 19 0 (4 ∷ 3 ∷ [])) (refuses 12) []
     -- a senior isn't reached, nor what only another user's role reaches; 10 comes first
     ∷ try (record-of 15 0 (2 ∷ 0 ∷ 3 ∷ []) ∷ []) (record-of 19 0 (4 ∷ 3 ∷ [])) (refuses 11) []
@@ -181,7 +192,7 @@ lesser-cases =
 
 -- after a history 0 deactivates 0#3 in 0/4: that is done where it is active still, and refused where it was dropped
 abbrev still-active : History → List Fact → Case
-still-active h gone = try h (record-of 20 0 (4 ∷ 3 ∷ [])) (accepts 0) gone
+still-active h gone = try h (record-of 20 0 (4 ∷ 3 ∷ [])) accepts gone
 
 abbrev was-dropped : History → List Fact → Case
 was-dropped h gone = try h (record-of 20 0 (4 ∷ 3 ∷ [])) (refuses 12) (active 0 4 3 3 ∷ gone)
@@ -201,28 +212,28 @@ dropped-cases =
     -- held itself for a while, it stays when that is taken
     ∷ still-active (lesser-role ++ (record-of 11 0 (3 ∷ 3 ∷ []) ∷ record-of 12 0 (3 ∷ 3 ∷ []) ∷ [])) (holds 0 3 3 ∷ [])
     -- another's session keeps its own
-    ∷ try (lesser-role ++ (another's ++ (record-of 12 0 (3 ∷ 2 ∷ []) ∷ []))) (record-of 20 0 (9 ∷ 3 ∷ [])) (accepts 0) (active 0 4 3 3 ∷ [])
+    ∷ try (lesser-role ++ (another's ++ (record-of 12 0 (3 ∷ 2 ∷ []) ∷ []))) (record-of 20 0 (9 ∷ 3 ∷ [])) accepts (active 0 4 3 3 ∷ [])
     ∷ []
 
 -- by way of another estate: 'also when another estate detaches'
 abbrev pub between-cases : List Case
 between-cases =
-    try (by-way-of-1 ++ an-hour) (record-of 21 0 (1 ∷ 0 ∷ 4 ∷ [])) (accepts 1) (attached 0 3 0 2 ∷ active 0 4 3 2 ∷ [])
+    try (by-way-of-1 ++ an-hour) (record-of 21 0 (1 ∷ 0 ∷ 4 ∷ [])) (says-yes 0 3) (attached 0 3 0 2 ∷ active 0 4 3 2 ∷ [])
     -- a second way keeps it
     ∷ still-active (by-way-of-1 ++ (record-of 15 0 (3 ∷ 0 ∷ 2 ∷ []) ∷ record-of 16 1 (6 ∷ 0 ∷ 2 ∷ []) ∷ [])) (attached 1 6 0 2 ∷ [])
-    ∷ try (by-way-of-1 ++ (an-hour ++ (record-of 16 1 (6 ∷ 0 ∷ 2 ∷ []) ∷ []))) (record-of 21 0 (1 ∷ 0 ∷ 4 ∷ [])) (accepts 0) (active 0 4 3 3 ∷ attached 1 6 0 2 ∷ [])
+    ∷ try (by-way-of-1 ++ (an-hour ++ (record-of 16 1 (6 ∷ 0 ∷ 2 ∷ []) ∷ []))) (record-of 21 0 (1 ∷ 0 ∷ 4 ∷ [])) accepts (active 0 4 3 3 ∷ attached 1 6 0 2 ∷ [])
     ∷ []
 
 -- Card 4: 'The press's sign of life'
 abbrev pub sign-of-life-cases : List Case
 sign-of-life-cases =
-    try [] [] (accepts 0) []
+    try [] [] accepts []
     -- one byte or more is no sign of life, even where the length field is right
     ∷ try [] (0 ∷ []) (refuses 3) []
     ∷ try [] (2 ∷ 0 ∷ []) (refuses 3) []
     ∷ try [] (3 ∷ 0 ∷ 1 ∷ []) (refuses 3) []
     -- after it case A is decided as before
-    ∷ try ([] ∷ []) (record-of 21 1 (5 ∷ 0 ∷ 4 ∷ [])) (accepts 1) []
+    ∷ try ([] ∷ []) (record-of 21 1 (5 ∷ 0 ∷ 4 ∷ [])) (says-yes 0 2) []
     ∷ []
 
 -- words that were never started

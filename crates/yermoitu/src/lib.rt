@@ -2,17 +2,21 @@
 // a slice is there a pointer and the number of its elements. An answer is one number: `packed-answer`, `packed-sheet` or a press's error.
 ghost use mathlib.Core.Path.{_≡_};
 ghost use Rattle.mtas.specs.Monitor.{start, monitor};
+ghost use Rattle.monitor.specs.Contract.{answer-of};
 ghost use Rattle.sheet.specs.Converted.{converted};
 ghost use Rattle.press.specs.Acted.{result, act};
 ghost use Rattle.yermoitu.specs.Packed.{packed-answer, Returns};
 ghost use Rattle.yermoitu.specs.PackedSheet.{with-told, packed-sheet, Converts};
 use monitor::Answer;
 
-// Both numbers of an answer in one.
+// The four numbers of an answer in one.
 fn pack(answer: Answer) -> u64
-    ensures { λ r. ⌜ r ≡ packed-answer (answer .refusal) (answer .verdict) ⌝ }
+    ensures { λ r. ⌜ r ≡ packed-answer (answer-of answer) ⌝ }
 {
-    answer.refusal as u64 + 65536 * (answer.verdict as u64)
+    answer.refusal as u64
+        + 65536 * (answer.verdict as u64)
+        + 4294967296 * (answer.issuer as u64)
+        + 1099511627776 * (answer.role as u64)
 }
 
 // Starting: a state of any words and any length.

@@ -29,5 +29,6 @@ call-spec =
     (λ c. search (refused-call, lawful-of))
     (λ c κs. search lawful-of)
     (λ c κs. let refused = c .before .before .before in (accepted-call (refused .before .refusal .ensures) (refused .if3 .left) (search lawful-of), search needs))
+    (λ c κs. search needs)
     (λ c. search needs)
     (λ c. search (played-call, lawful-of)))
