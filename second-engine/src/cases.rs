@@ -1,10 +1,14 @@
-//! "Twelve press-house cases", cases of public roles, of lesser ones and of short records, as
-//! records with the paper's answers.
+//! "Twelve press-house cases", cases of public roles, of lesser ones and of short records, and
+//! those of `through_cases`, as records with the paper's answers.
 
+use crate::engine::Answer;
 use crate::record::{encode, OPERATOR};
+use crate::sets::Role;
+use crate::through::NO_ROLE;
+use crate::through_cases::{ThroughRows, THROUGH};
 
 /// The kind, the caller and the arguments of a record.
-type Row = (usize, usize, &'static [usize]);
+pub type Row = (usize, usize, &'static [usize]);
 
 /// The refusal and the verdict.
 pub type Expected = (u16, u16);
@@ -17,6 +21,16 @@ pub struct Case {
     pub records: Vec<Vec<u8>>,
     /// The answer to the last record; the ones before it are accepted.
     pub expected: Expected,
+    /// The role that it tells, where the case says so.
+    pub through: Option<Role>,
+}
+
+impl Case {
+    /// Whether the answer to the last record is this one.
+    pub fn fits(&self, answer: Answer) -> bool {
+        let role = self.through.unwrap_or(answer.through);
+        (answer.refusal, answer.verdict) == self.expected && answer.through == role
+    }
 }
 
 /// Builds S: "issuers 0 and 1 are enrolled, 0 trusts 1, 0@3 holds 0#2, 0#3 is present and
@@ -242,8 +256,14 @@ pub fn cases() -> Vec<Case> {
             name,
             records: vec![record.to_vec()],
             expected,
+            through: without_a_yes(expected),
         });
-    from_s.chain(on_the_way).chain(short).collect()
+    let through = THROUGH.into_iter().map(through_case);
+    from_s
+        .chain(on_the_way)
+        .chain(short)
+        .chain(through)
+        .collect()
 }
 
 fn case(before: &[Row], (name, rows, expected): Rows) -> Case {
@@ -251,5 +271,20 @@ fn case(before: &[Row], (name, rows, expected): Rows) -> Case {
         name,
         records: records(&[before, rows].concat()),
         expected,
+        through: without_a_yes(expected),
     }
+}
+
+fn through_case((name, rows, role): ThroughRows) -> Case {
+    Case {
+        name,
+        records: records(rows),
+        expected: (0, u16::from(role != NO_ROLE)),
+        through: Some(role),
+    }
+}
+
+/// "without a yes they are 255 and 255"
+fn without_a_yes((_, verdict): Expected) -> Option<Role> {
+    (verdict == 0).then_some(NO_ROLE)
 }

@@ -5,8 +5,9 @@ use crate::lawful::{Law, LAWS};
 use crate::reach_counts::ReachCounts;
 use crate::record::{decode_call, Call, KINDS};
 use crate::refusals::{linked_role, REFUSALS};
-use crate::sets::{own, Grant, Permission, SessionName, Sets};
+use crate::sets::{own, Grant, Role, SessionName, Sets};
 use crate::short_counts::ShortCounts;
+use crate::through_counts::ThroughCounts;
 use std::collections::{BTreeMap, BTreeSet};
 
 /// What a call can clear.
@@ -82,6 +83,7 @@ pub struct Counts {
     broken_alone: BTreeMap<Law, u64>,
     pub reach: ReachCounts,
     pub short: ShortCounts,
+    pub through: ThroughCounts,
 }
 
 impl Counts {
@@ -119,7 +121,8 @@ impl Counts {
         };
         if answer.verdict == 1 {
             let permission = own(decoded.caller, permission);
-            let walked = attachments_walked(after, own(issuer, session), permission);
+            let holds = |&role: &Role| after.grants.contains(&Grant { role, permission });
+            let walked = attachments_walked(after, own(issuer, session), holds);
             self.verdicts[walked.min(4)] += 1;
         }
     }
@@ -175,6 +178,7 @@ impl Counts {
         }
         missing.extend(self.reach.missing());
         missing.extend(self.short.missing());
+        missing.extend(self.through.missing());
         missing
     }
 
@@ -202,6 +206,7 @@ impl Counts {
             self.verdicts[3],
             self.verdicts[4]
         );
+        self.through.print();
         self.short.print();
         self.reach.print();
         println!("kind: accepted across estates, refused with 14");
@@ -227,14 +232,13 @@ impl Counts {
     }
 }
 
-/// The least number of attachments from an active role down to a role that holds the
-/// permission, where there is one.
-fn attachments_walked(sets: &Sets, name: SessionName, permission: Permission) -> usize {
+/// The least number of attachments from an active role down to a role that fits, where there is
+/// one.
+pub fn attachments_walked(sets: &Sets, name: SessionName, fits: impl Fn(&Role) -> bool) -> usize {
     let active = sets.sessions[&name].active.iter();
     let mut level: BTreeSet<_> = active.map(|&role| own(name.issuer, role)).collect();
     let mut walked = 0;
-    let holds = |&role: &_| sets.grants.contains(&Grant { role, permission });
-    while !level.is_empty() && !level.iter().any(holds) {
+    while !level.is_empty() && !level.iter().any(&fits) {
         level = level
             .into_iter()
             .flat_map(|role| sets.juniors(role))

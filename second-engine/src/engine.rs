@@ -5,33 +5,60 @@ use crate::lawful::lawful;
 use crate::places::WORDS;
 use crate::record::{decode, Call, Record};
 use crate::refusals::refusal;
-use crate::sets::{own, write_started, Sets};
+use crate::sets::{own, write_started, Role, Sets};
+use crate::through::NO_ROLE;
 
-/// "An answer is two numbers: a refusal (0 for accepted) and a verdict."
+/// "An answer is two numbers: a refusal (0 for accepted) and a verdict." Now it has two more, a
+/// role's issuer and its number: "The answer carries both".
 #[derive(Clone, Copy, Debug, PartialEq, Eq)]
 pub struct Answer {
     pub refusal: u16,
     pub verdict: u16,
+    /// The role that gave the yes, or `NO_ROLE`.
+    pub through: Role,
 }
 
 impl Answer {
-    /// As the library packs it.
+    /// As the library packs it: the refusal in bits 0 to 15, the verdict in 16 to 31, the role's
+    /// issuer in 32 to 39 and its number in 40 to 47.
     pub fn packed(self) -> u64 {
-        u64::from(self.refusal) + 65536 * u64::from(self.verdict)
+        let [issuer, role] = [self.through.issuer, self.through.number].map(|n| n as u64);
+        let verdict = u64::from(self.verdict);
+        u64::from(self.refusal) + (verdict << 16) + (issuer << 32) + (role << 40)
     }
 }
 
-fn refused(refusal: u16) -> Answer {
+/// The four numbers of a packed answer, and what stands above them.
+pub fn unpacked(packed: u64) -> [u64; 5] {
+    [
+        packed % 65536,
+        (packed >> 16) % 65536,
+        (packed >> 32) % 256,
+        (packed >> 40) % 256,
+        packed >> 48,
+    ]
+}
+
+/// An answer without a yes.
+pub const fn refused(refusal: u16) -> Answer {
     Answer {
         refusal,
         verdict: 0,
+        through: NO_ROLE,
     }
 }
 
-pub const ACCEPTED: Answer = Answer {
-    refusal: 0,
-    verdict: 0,
-};
+/// 0 is no refusal.
+pub const ACCEPTED: Answer = refused(0);
+
+/// Accepted, with verdict 1.
+pub const fn yes(through: Role) -> Answer {
+    Answer {
+        refusal: 0,
+        verdict: 1,
+        through,
+    }
+}
 
 /// "Starting gives only 0 or 1."
 pub fn start(words: &mut [u16]) -> Answer {
@@ -77,18 +104,15 @@ fn play(sets: &mut Sets, record: &[u8]) -> Answer {
     carry_out(sets, &decoded);
     // "The verdict is 1 only for kind 21 when an active role of an open session reaches a
     // role that holds p; else 0."
-    let verdict = match decoded.call {
+    let through = match decoded.call {
         Call::MayUse {
             permission,
             issuer,
             session,
-        } => sets.may_use(own(issuer, session), own(decoded.caller, permission)),
-        _ => false,
+        } => sets.through(own(issuer, session), own(decoded.caller, permission)),
+        _ => None,
     };
-    Answer {
-        refusal: 0,
-        verdict: u16::from(verdict),
-    }
+    through.map_or(ACCEPTED, yes)
 }
 
 /// A started state and its sets, kept between calls.

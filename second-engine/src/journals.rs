@@ -57,7 +57,7 @@ fn shortest(seeds: &mut Random, failing: Vec<Step>) -> Vec<Step> {
 fn play_cases(trace: bool, counts: &mut Counts) -> bool {
     for case in cases() {
         counts.journals += 1;
-        let records = state_s().into_iter().chain(case.records);
+        let records = state_s().into_iter().chain(case.records.clone());
         let steps: Vec<Step> = records.map(Step::Call).collect();
         let Ok(mut both) = SideBySide::started(trace) else {
             announce("starting, after 0 calls");
@@ -72,8 +72,9 @@ fn play_cases(trace: bool, counts: &mut Counts) -> bool {
                 return report(steps);
             }
         }
-        if last.map(|answer| (answer.refusal, answer.verdict)) != Some(case.expected) {
-            println!("case {}: the paper gives {:?}", case.name, case.expected);
+        if !last.is_some_and(|answer| case.fits(answer)) {
+            let (name, expected, through) = (case.name, case.expected, case.through);
+            println!("case {name}: the paper gives {expected:?} {through:?}");
             return false;
         }
     }
@@ -154,6 +155,7 @@ fn play(both: &mut SideBySide, step: &Step, counts: &mut Counts) -> Option<Answe
                 let after = both.desk().sets();
                 counts.changed(record, answer, before, after);
                 counts.reach.changed(record, &sessions, after);
+                counts.through.accepted(record, answer, after);
             }
         }
         Step::CallOn(damage, record) => {
@@ -163,7 +165,9 @@ fn play(both: &mut SideBySide, step: &Step, counts: &mut Counts) -> Option<Answe
             if answer.refusal == 2 {
                 broken = broken_laws(&Sets::read(&words));
             } else if answer.refusal != 1 {
-                counts.reach.on_lawful_state(&Sets::read(&words));
+                let sets = Sets::read(&words);
+                counts.reach.on_lawful_state(&sets);
+                counts.through.on_lawful_state(record, answer, &sets);
                 counts.short.on_lawful_state(record, answer);
             }
             counts.on_other_state(answer, &broken);

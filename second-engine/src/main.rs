@@ -6,11 +6,12 @@
 //! the converter on the standard's rules, and the press on its card's. `build.rs` says where the
 //! library is looked for.
 //!
-//! The engine: `places`, `sets`, `lawful`, `record`, `refusals`, `cascades`, `engine`. The
-//! journals: `worlds`, `ways`, `records`, `aims`, `lawful_states`, `damage`, `journals`. Demand
-//! 3: `histories`, `pairs`. The converter: `sheet`. The sheets: `sheet_rows`, `sheet_spots`,
-//! `sheet_damage`, `sheet_rough`, `sheet_cases`, `sheets`. The press: `press`. The presses:
-//! `press_floor`, `press_spoils`, `press_histories`, `chains`, `presses`, `press_report`.
+//! The engine: `places`, `sets`, `lawful`, `record`, `refusals`, `through`, `cascades`, `engine`.
+//! The journals: `worlds`, `ways`, `records`, `aims`, `lawful_states`, `damage`, `journals`. The
+//! role of a yes: `through_cases`, `through_check`, `through_counts`. Demand 3: `histories`,
+//! `pairs`. The converter: `sheet`. The sheets: `sheet_rows`, `sheet_spots`, `sheet_damage`,
+//! `sheet_rough`, `sheet_cases`, `sheets`. The press: `press`. The presses: `press_floor`,
+//! `press_spoils`, `press_histories`, `chains`, `presses`, `press_report`.
 
 mod aims;
 mod cascades;
@@ -76,6 +77,16 @@ mod shrink;
 mod side_by_side;
 #[cfg(test)]
 mod tests;
+mod through;
+#[cfg(test)]
+mod through_case_tests;
+mod through_cases;
+mod through_check;
+mod through_counts;
+#[cfg(test)]
+mod through_tests;
+#[cfg(test)]
+mod through_wrong;
 mod ways;
 mod worlds;
 

@@ -1,10 +1,12 @@
 //! What the random pairs of histories have reached.
 
+use crate::engine::{unpacked, Answer};
 use crate::histories::{outsiders, trusts_a_member, In, Pair};
 use crate::pairs::Played;
 use crate::reach_counts::{dropped, lesser_activated, Sessions};
 use crate::record::decode_call;
 use crate::sets::Sets;
+use crate::through_check::Yes;
 use crate::ways::only_through_others;
 use std::collections::BTreeSet;
 
@@ -19,11 +21,13 @@ struct Answered {
     published: u64,
     unpublished: u64,
     verdicts: u64,
+    /// Those of them through a role of another estate than the session's.
+    through_others: u64,
 }
 
 impl Answered {
     fn count(&mut self, record: &[u8], answer: u64) {
-        let (refusal, verdict) = (answer % 65536, answer / 65536);
+        let [refusal, verdict, ..] = unpacked(answer);
         let accepted = refusal == 0;
         let kind = decode_call(record).map(|decoded| decoded.kind);
         self.accepted += u64::from(accepted);
@@ -32,6 +36,8 @@ impl Answered {
         self.published += u64::from(accepted && kind == Some(22));
         self.unpublished += u64::from(accepted && kind == Some(23));
         self.verdicts += verdict;
+        let another = |yes: Yes| yes.told.issuer != yes.name.issuer;
+        self.through_others += u64::from(Yes::to(record, answer).is_some_and(another));
     }
 
     fn all(&self) -> u64 {
@@ -47,6 +53,10 @@ pub struct PairCounts {
     refused_trust: u64,
     remaining: Answered,
     outsiders: Answered,
+    /// Yeses that remain, where several reached roles hold the permission, and where a lower
+    /// role is reached that is an outsider's.
+    several_holders: u64,
+    past_outsiders: u64,
     /// Signs of life that stand in one of the two histories only.
     signs_of_life: u64,
     empty_sets: u64,
@@ -81,7 +91,8 @@ impl PairCounts {
                 } else {
                     self.remaining.count(record, answer);
                 }
-                let refused_trust = answer != 0 && trusts_a_member(&pair.members, record);
+                let refused = unpacked(answer)[0] != 0;
+                let refused_trust = refused && trusts_a_member(&pair.members, record);
                 self.refused_trust += u64::from(refused_trust);
             }
             self.count_end(&pair.members, &Sets::read(&played.words));
@@ -93,9 +104,19 @@ impl PairCounts {
         &mut self,
         members: &BTreeSet<usize>,
         record: &[u8],
+        answer: Answer,
         before: &Sessions,
         after: &Sets,
     ) {
+        let yes = Yes::to(record, answer.packed());
+        if let Some(yes) = yes.filter(|_| !outsiders(members, record)) {
+            let holders = after.reached_holders(yes.name, yes.permission);
+            let reached = after.reached_in(yes.name);
+            let mut lower = reached.range(..yes.told);
+            let past_outsiders = lower.any(|role| !members.contains(&role.issuer));
+            self.several_holders += u64::from(holders.len() > 1);
+            self.past_outsiders += u64::from(past_outsiders);
+        }
         if let Some((name, role)) = lesser_activated(record, after) {
             if members.contains(&name.issuer) {
                 self.lesser += 1;
@@ -138,7 +159,7 @@ impl PairCounts {
         }
     }
 
-    fn lines(&self) -> [(&'static str, u64); 28] {
+    fn lines(&self) -> [(&'static str, u64); 33] {
         let PairCounts {
             remaining,
             outsiders,
@@ -156,9 +177,14 @@ impl PairCounts {
             ("  unpublishing", remaining.unpublished),
             ("  refused with 14", remaining.not_public),
             ("  verdicts 1", remaining.verdicts),
+            ("    of another member", remaining.through_others),
+            ("    with several holders", self.several_holders),
+            ("    past an outsider's", self.past_outsiders),
             ("outsiders' accepted", outsiders.accepted),
             ("outsiders' publishing", outsiders.published),
             ("outsiders' unpublishing", outsiders.unpublished),
+            ("outsiders' verdicts 1", outsiders.verdicts),
+            ("  of another estate", outsiders.through_others),
             ("outsiders' refused", outsiders.refused),
             ("outsiders' refusals 14", outsiders.not_public),
             ("  trusting a member", self.refused_trust),

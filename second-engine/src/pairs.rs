@@ -11,7 +11,7 @@ use crate::random::Random;
 use crate::report::{announce, report};
 use crate::sets::{own, Attachment, Sets};
 use crate::shrink::shrink;
-use crate::side_by_side::{hex, SideBySide, Step};
+use crate::side_by_side::{hex, numbers, SideBySide, Step};
 
 /// What a history left: the answers, packed, and the words.
 pub struct Played {
@@ -67,7 +67,8 @@ fn play_beside_engine(
         };
         answers.push(answer.packed());
         if answer.refusal == 0 {
-            counts.count_call(&pair.members, record, &before, both.desk().sets());
+            let after = both.desk().sets();
+            counts.count_call(&pair.members, record, answer, &before, after);
         }
     }
     let words = both.library_words().to_vec();
@@ -85,17 +86,24 @@ fn play_library(records: &[&[u8]]) -> Played {
 }
 
 /// Says what of the claim fails. Nothing is claimed where the premise fails.
-fn broken_claim(pair: &Pair, first: &Played, second: &Played) -> Option<String> {
+pub fn broken_claim(pair: &Pair, first: &Played, second: &Played) -> Option<String> {
     if premise_fails(pair, In::First, first) || premise_fails(pair, In::Second, second) {
         return None;
     }
-    // "the answers to the records that remain are equal lists"
+    // "the answers to the records that remain are equal lists, every number of each answer"
     let first_answers = remaining_answers(pair, In::First, first);
     let second_answers = remaining_answers(pair, In::Second, second);
     if first_answers != second_answers {
         let answers = first_answers.iter().zip(&second_answers);
         let equal = answers.take_while(|(a, b)| a == b).count();
-        return Some(format!("answer {} of those that remain", equal + 1));
+        let told = |answers: &[u64]| answers.get(equal).map(|&packed| numbers(packed));
+        let both = [told(&first_answers), told(&second_answers)];
+        let both = both.map(|told| told.unwrap_or("none".to_string()));
+        return Some(format!(
+            "answer {} of those that remain: {}",
+            equal + 1,
+            both.join("; ")
+        ));
     }
     let first_sets = Sets::read(&first.words);
     let second_sets = Sets::read(&second.words);
@@ -114,12 +122,17 @@ fn broken_claim(pair: &Pair, first: &Played, second: &Played) -> Option<String> 
             return Some(format!("the words in issuer {j}'s own name"));
         }
         // "for each session i/s and each permission j%p of a member j, whether the session is
-        // open with an active role that reaches a role holding j%p"
+        // open with an active role that reaches a role holding j%p"; and through which one:
+        // "demand 3 holds for these two numbers"
         for (i, s, p) in (0..4096).map(|n| (n / 256, n / 16 % 16, n % 16)) {
             let (session, permission) = (own(i, s), own(j, p));
-            let first_may = first_sets.may_use(session, permission);
-            if first_may != second_sets.may_use(session, permission) {
+            let first = first_sets.through(session, permission);
+            let second = second_sets.through(session, permission);
+            if first.is_some() != second.is_some() {
                 return Some(format!("whether session {i}/{s} may use {j}%{p}"));
+            }
+            if first != second {
+                return Some(format!("through which role {i}/{s} may use {j}%{p}"));
             }
         }
     }

@@ -1,6 +1,6 @@
 //! The random presses tell wrong presses from right ones.
 
-use crate::engine::{call, Answer, Desk};
+use crate::engine::{call, Desk, ACCEPTED};
 use crate::lent_press::{Handed, LentPress, List, Presser};
 use crate::library::Lent;
 use crate::press::{act, next_stage, Asked, PRESSES};
@@ -9,7 +9,7 @@ use crate::press_floor::Question;
 use crate::press_histories::{History, Turn};
 use crate::press_misread::{Taken, READERS};
 use crate::press_report::PressCase;
-use crate::press_wrong::{plain, At, ASKERS, JUDGES, WHOLES};
+use crate::press_wrong::{plain, At, ASKERS, JUDGES, WHOLES, YES};
 use crate::presses::on_words;
 use crate::random::Random;
 use std::slice;
@@ -125,9 +125,9 @@ fn wrong_presses() -> Vec<(String, Box<Presser>)> {
     }
     for (name, judge) in JUDGES {
         let press = move |at: &mut At| {
-            let ask = |record: &[u8]| Answer {
-                refusal: 0,
-                verdict: u16::from(judge(call(at.words, record))),
+            let ask = |record: &[u8]| match judge(call(at.words, record)) {
+                true => YES,
+                false => ACCEPTED,
             };
             act(ask, at.owners, at.stages, at.asked)
         };

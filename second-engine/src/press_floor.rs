@@ -211,8 +211,7 @@ fn blind(random: &mut Random, world: &World) -> Asked {
 fn usable(random: &mut Random, sets: &Sets) -> Option<(SessionName, Permission)> {
     for _ in 0..4 {
         let name = open_session(random, sets)?;
-        let active = sets.sessions[&name].active.iter();
-        let reached = sets.reached(active.map(|&role| own(name.issuer, role)));
+        let reached = sets.reached_in(name);
         let grants = sets.grants.iter();
         let held = grants.filter(|grant| reached.contains(&grant.role));
         let held = held.map(|grant| grant.permission);

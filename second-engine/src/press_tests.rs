@@ -1,17 +1,14 @@
 //! The plain press on worked examples of Card 6.
 
 use crate::chains::chain_of_trust;
-use crate::engine::{call, Answer, Desk, ACCEPTED};
+use crate::engine::{call, refused, yes, Answer, Desk, ACCEPTED};
 use crate::places::{trust_word, WORDS};
 use crate::press::{act, Asked, PRESSES};
 use crate::record::{encode, OPERATOR};
-use crate::sets::{Sets, Trust};
+use crate::sets::{own, Sets, Trust};
 
 /// The desk's answers.
-const YES: Answer = Answer {
-    refusal: 0,
-    verdict: 1,
-};
+const YES: Answer = yes(own(9, 0));
 const NO: Answer = ACCEPTED;
 
 /// Owners 0 to 15, twice, and stages 0 to 3, eight times.
@@ -148,10 +145,6 @@ fn owners_and_stages_out_of_range() {
 /// "18, verdict 0 or a desk refusal; 19, wrong stage", "in this order"
 #[test]
 fn errors_in_order() {
-    let refused = |refusal| Answer {
-        refusal,
-        verdict: 0,
-    };
     // Press 0 is idle and press 1 loaded: loading is right there, and wrong here.
     for answer in [
         NO,

@@ -1,7 +1,7 @@
 //! Presses that are wrong in one thing each, made of the plain one.
 
 use crate::chains::chain_of_trust;
-use crate::engine::{call, Answer};
+use crate::engine::{call, yes, Answer};
 use crate::places::WORDS;
 use crate::press::{act, next_stage, Asked, PRESSES};
 use crate::record::encode;
@@ -164,7 +164,7 @@ impl At<'_> {
             ..
         } = self.asked;
         let arguments = [action, issuer, session].map(usize::from);
-        call(self.words, &encode(21, owner.into(), &arguments)) != YES
+        call(self.words, &encode(21, owner.into(), &arguments)).verdict == 0
     }
 
     /// Whether the words, lawful or not, lead to the owner's permission.
@@ -218,11 +218,9 @@ fn moved_with(at: &mut At, with: u16) -> u16 {
     error
 }
 
-const YES: Answer = Answer {
-    refusal: 0,
-    verdict: 1,
-};
+/// A yes of the desk, through some role.
+pub const YES: Answer = yes(own(0, 0));
 
 fn yes_or(answer: Answer, refusal: u16) -> bool {
-    answer == YES || answer.refusal == refusal
+    answer.verdict == 1 || answer.refusal == refusal
 }

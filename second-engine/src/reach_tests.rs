@@ -1,7 +1,7 @@
 //! Lesser roles, which the user reaches and doesn't hold, on the second engine: every set is
 //! compared after each call.
 
-use crate::engine::{call, Desk};
+use crate::engine::{call, Desk, ACCEPTED};
 use crate::lawful::{broken_laws, Law};
 use crate::lawful_states::lawful_sets;
 use crate::places::WORDS;
@@ -52,7 +52,7 @@ fn lesser() -> Sets {
 fn after(sets: &Sets, record: &[u8]) -> Sets {
     let mut words = vec![0; WORDS];
     sets.write(&mut words);
-    assert_eq!(call(&mut words, record).packed(), 0, "{record:?}");
+    assert_eq!(call(&mut words, record), ACCEPTED, "{record:?}");
     let left = Sets::read(&words);
     assert_eq!(broken_laws(&left), [], "{record:?}");
     left

@@ -6,7 +6,8 @@ use crate::places::{
 };
 use std::collections::{BTreeMap, BTreeSet};
 
-/// A thing that an issuer owns: i@u, i#r, i%p or i/s.
+/// A thing that an issuer owns: i@u, i#r, i%p or i/s. The lower one has the lower issuer number,
+/// or the same and the lower number.
 #[derive(Clone, Copy, Debug, PartialEq, Eq, PartialOrd, Ord)]
 pub struct Own {
     pub issuer: usize,
@@ -18,7 +19,7 @@ pub type Role = Own;
 pub type Permission = Own;
 pub type SessionName = Own;
 
-pub fn own(issuer: usize, number: usize) -> Own {
+pub const fn own(issuer: usize, number: usize) -> Own {
     Own { issuer, number }
 }
 
@@ -260,18 +261,6 @@ impl Sets {
         let reached = self.reached(self.held_by(user));
         let of_issuer = reached.iter().filter(|role| role.issuer == user.issuer);
         of_issuer.map(|role| role.number).collect()
-    }
-
-    /// "an active role of an open session reaches a role that holds p"
-    pub fn may_use(&self, name: SessionName, permission: Permission) -> bool {
-        let Some(session) = self.sessions.get(&name) else {
-            return false;
-        };
-        let active = session.active.iter();
-        let mut reached = self
-            .reached(active.map(|&role| own(name.issuer, role)))
-            .into_iter();
-        reached.any(|role| self.grants.contains(&Grant { role, permission }))
     }
 }
 

@@ -2,7 +2,7 @@
 
 use crate::cases::state_s;
 use crate::damage::any_damage;
-use crate::engine::{call, Desk};
+use crate::engine::{call, refused, yes, Answer, Desk, ACCEPTED};
 use crate::histories::{any_pair, outsiders, trusts_a_member, In};
 use crate::lawful::{broken_laws, lawful};
 use crate::lawful_states::lawful_sets;
@@ -10,7 +10,7 @@ use crate::places::{public_word, session_word, WORDS};
 use crate::random::Random;
 use crate::record::{decode, encode, Record};
 use crate::records::{any_record, undecodable};
-use crate::sets::Sets;
+use crate::sets::{own, Sets};
 use crate::tests::in_s;
 use crate::worlds::World;
 use std::collections::BTreeSet;
@@ -27,13 +27,13 @@ fn words_of(sets: &Sets) -> Vec<u16> {
 fn desk_s() -> Desk {
     let mut desk = Desk::started();
     for record in state_s() {
-        assert_eq!(desk.call(&record).packed(), 0);
+        assert_eq!(desk.call(&record), ACCEPTED);
     }
     desk
 }
 
-/// The answer, packed; both ways of calling give it, and the words stay.
-fn left_by(mut desk: Desk, record: &[u8]) -> u64 {
+/// The answer; both ways of calling give it, and the words stay.
+fn left_by(mut desk: Desk, record: &[u8]) -> Answer {
     let before = desk.words().to_vec();
     let mut words = before.clone();
     let answer = call(&mut words, record);
@@ -41,25 +41,25 @@ fn left_by(mut desk: Desk, record: &[u8]) -> u64 {
     assert_eq!(desk.call(record), answer, "{record:?}");
     assert_eq!(desk.words(), before, "{record:?}");
     assert!(desk.sound());
-    answer.packed()
+    answer
 }
 
-/// The answer, packed; the words stay.
-fn left_on(words: &[u16], record: &[u8]) -> u64 {
+/// The answer; the words stay.
+fn left_on(words: &[u16], record: &[u8]) -> Answer {
     let mut left = words.to_vec();
     let answer = call(&mut left, record);
     assert_eq!(left, words, "{record:?}");
-    answer.packed()
+    answer
 }
 
 #[test]
 fn a_sign_of_life_is_accepted_and_changes_no_word() {
-    assert_eq!(left_by(Desk::started(), SIGN_OF_LIFE), 0);
-    assert_eq!(left_by(desk_s(), SIGN_OF_LIFE), 0);
-    assert_eq!(left_on(&words_of(&in_s()), SIGN_OF_LIFE), 0);
+    assert_eq!(left_by(Desk::started(), SIGN_OF_LIFE), ACCEPTED);
+    assert_eq!(left_by(desk_s(), SIGN_OF_LIFE), ACCEPTED);
+    assert_eq!(left_on(&words_of(&in_s()), SIGN_OF_LIFE), ACCEPTED);
     for seed in 0..10 {
         let sets = lawful_sets(&mut Random::new(seed));
-        assert_eq!(left_on(&words_of(&sets), SIGN_OF_LIFE), 0);
+        assert_eq!(left_on(&words_of(&sets), SIGN_OF_LIFE), ACCEPTED);
     }
 }
 
@@ -68,9 +68,9 @@ fn a_sign_of_life_is_accepted_and_changes_no_word() {
 fn after_a_sign_of_life_the_answers_are_the_same() {
     let mut desk = desk_s();
     for _ in 0..3 {
-        assert_eq!(desk.call(SIGN_OF_LIFE).packed(), 0);
-        assert_eq!(desk.call(&encode(21, 1, &[5, 0, 4])).packed(), 65536);
-        assert_eq!(desk.call(&encode(22, 0, &[2])).packed(), 12);
+        assert_eq!(desk.call(SIGN_OF_LIFE), ACCEPTED);
+        assert_eq!(desk.call(&encode(21, 1, &[5, 0, 4])), yes(own(0, 2)));
+        assert_eq!(desk.call(&encode(22, 0, &[2])), refused(12));
     }
 }
 
@@ -80,8 +80,8 @@ fn a_sign_of_life_on_a_wrong_length_gives_1() {
     for length in [0, 1, 9025, 9040, 9042, 18082, 65536 + WORDS] {
         let mut words = words_of(&in_s());
         words.resize(length, 0);
-        assert_eq!(left_on(&words, SIGN_OF_LIFE), 1, "{length} words");
-        assert_eq!(left_on(&vec![7; length], SIGN_OF_LIFE), 1);
+        assert_eq!(left_on(&words, SIGN_OF_LIFE), refused(1), "{length} words");
+        assert_eq!(left_on(&vec![7; length], SIGN_OF_LIFE), refused(1));
     }
 }
 
@@ -93,9 +93,9 @@ fn a_sign_of_life_on_an_unlawful_state_gives_2() {
         let mut words = words_of(&in_s());
         words[place] = word;
         assert_ne!(broken_laws(&Sets::read(&words)), []);
-        assert_eq!(left_on(&words, SIGN_OF_LIFE), 2, "word {place}");
+        assert_eq!(left_on(&words, SIGN_OF_LIFE), refused(2), "word {place}");
     }
-    assert_eq!(left_on(&[65535; WORDS], SIGN_OF_LIFE), 2);
+    assert_eq!(left_on(&[65535; WORDS], SIGN_OF_LIFE), refused(2));
 }
 
 #[test]
@@ -113,7 +113,7 @@ fn signs_of_life_on_damaged_states() {
         } else {
             0
         };
-        assert_eq!(left_on(&words, SIGN_OF_LIFE), expected as u64);
+        assert_eq!(left_on(&words, SIGN_OF_LIFE), refused(expected as u16));
         seen[expected] += 1;
     }
     assert!(seen.iter().all(|&count| count > 0), "{seen:?}");
@@ -126,10 +126,10 @@ fn one_to_four_bytes_are_refused_with_3() {
         for field in [0, bytes as u8, 5, 6, 255] {
             let record = &[field, 0, 21, 0][..bytes];
             assert_eq!(decode(record), Record::Undecodable, "{record:?}");
-            assert_eq!(left_by(Desk::started(), record), 3);
-            assert_eq!(left_by(desk_s(), record), 3);
-            assert_eq!(left_on(&[65535; WORDS], record), 2);
-            assert_eq!(left_on(&[0; 9040], record), 1);
+            assert_eq!(left_by(Desk::started(), record), refused(3));
+            assert_eq!(left_by(desk_s(), record), refused(3));
+            assert_eq!(left_on(&[65535; WORDS], record), refused(2));
+            assert_eq!(left_on(&[0; 9040], record), refused(1));
         }
     }
 }

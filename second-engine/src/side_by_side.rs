@@ -1,9 +1,12 @@
-//! The library and the second engine side by side: each step is played on both, and both
-//! numbers and all words are compared.
+//! The library and the second engine side by side: each step is played on both, and all numbers
+//! and all words are compared. The role that the library tells with a yes is looked at besides.
 
 use crate::damage::Damage;
-use crate::engine::{self, Answer, Desk, ACCEPTED};
+use crate::engine::{self, unpacked, Answer, Desk, ACCEPTED};
 use crate::library::{Given, Lent};
+use crate::places::WORDS;
+use crate::sets::Sets;
+use crate::through_check::Yes;
 use std::fmt;
 
 /// One thing that a journal does.
@@ -46,7 +49,17 @@ pub fn hex(record: &[u8]) -> String {
     text
 }
 
-/// Where the library and the second engine disagree.
+/// The numbers of a packed answer; what stands above them only where it isn't 0.
+pub fn numbers(packed: u64) -> String {
+    let [refusal, verdict, issuer, role, above] = unpacked(packed);
+    let mut text = format!("refusal {refusal}, verdict {verdict}, issuer {issuer}, role {role}");
+    if above != 0 {
+        text += &format!(", above them {above}");
+    }
+    text
+}
+
+/// Where the library and the second engine disagree, or the role of a yes is wrong.
 #[derive(Debug)]
 pub struct Difference {
     library: u64,
@@ -54,14 +67,14 @@ pub struct Difference {
     /// The first differing word: its place, the library's and the second engine's.
     word: Option<(usize, u16, u16)>,
     overwritten: Option<&'static str>,
+    /// What is wrong with the role that the library tells.
+    wrong_role: Option<String>,
 }
 
 impl fmt::Display for Difference {
     fn fmt(&self, out: &mut fmt::Formatter) -> fmt::Result {
-        let (refusal, verdict) = (self.library % 65536, self.library / 65536);
-        writeln!(out, "library:       refusal {refusal}, verdict {verdict}")?;
-        let Answer { refusal, verdict } = self.engine;
-        write!(out, "second engine: refusal {refusal}, verdict {verdict}")?;
+        writeln!(out, "library:       {}", numbers(self.library))?;
+        write!(out, "second engine: {}", numbers(self.engine.packed()))?;
         if let Some((place, library, engine)) = self.word {
             write!(out, "\nfirst differing word {place}: ")?;
             write!(out, "library {library}, second engine {engine}")?;
@@ -69,13 +82,26 @@ impl fmt::Display for Difference {
         if let Some(what) = self.overwritten {
             write!(out, "\nthe library has overwritten {what}")?;
         }
+        if let Some(what) = &self.wrong_role {
+            write!(out, "\nthe library's role: {what}")?;
+        }
         Ok(())
     }
 }
 
-fn compare(given: &Given, lent: &Lent, answer: Answer, words: &[u16]) -> Result<(), Difference> {
-    let same_words = lent.words() == words;
-    if given.packed == answer.packed() && same_words && given.overwritten.is_none() {
+/// Compares what they gave for a record, and looks at the role of the library's yes in the words
+/// that the second engine left.
+fn compare(
+    record: &[u8],
+    given: &Given,
+    lent: &Lent,
+    answer: Answer,
+    words: &[u16],
+) -> Result<(), Difference> {
+    let said_yes = Yes::to(record, given.packed).filter(|_| words.len() == WORDS);
+    let wrong_role = said_yes.and_then(|yes| yes.wrong(&Sets::read(words)));
+    let same = given.packed == answer.packed() && lent.words() == words;
+    if same && given.overwritten.is_none() && wrong_role.is_none() {
         return Ok(());
     }
     let pairs = lent.words().iter().zip(words).enumerate();
@@ -87,8 +113,12 @@ fn compare(given: &Given, lent: &Lent, answer: Answer, words: &[u16]) -> Result<
             .next()
             .map(|(place, (library, engine))| (place, *library, *engine)),
         overwritten: given.overwritten,
+        wrong_role,
     })
 }
+
+/// Starting has no record.
+const STARTING: &[u8] = &[];
 
 pub struct SideBySide {
     lent: Lent,
@@ -102,7 +132,7 @@ impl SideBySide {
         let desk = Desk::started();
         let mut lent = Lent::new(&vec![0xBEEF; desk.words().len()]);
         let given = lent.start();
-        compare(&given, &lent, ACCEPTED, desk.words())?;
+        compare(STARTING, &given, &lent, ACCEPTED, desk.words())?;
         Ok(SideBySide { lent, desk, trace })
     }
 
@@ -128,7 +158,7 @@ impl SideBySide {
             Step::Call(record) => {
                 let given = self.lent.call(record);
                 let answer = self.desk.call(record);
-                compare(&given, &self.lent, answer, self.desk.words())?;
+                compare(record, &given, &self.lent, answer, self.desk.words())?;
                 Ok(answer)
             }
             Step::CallOn(damage, record) => {
@@ -136,7 +166,7 @@ impl SideBySide {
                 let mut lent = Lent::new(&words);
                 let given = lent.call(record);
                 let answer = engine::call(&mut words, record);
-                compare(&given, &lent, answer, &words)?;
+                compare(record, &given, &lent, answer, &words)?;
                 Ok(answer)
             }
             Step::StartOn(damage) => {
@@ -144,7 +174,7 @@ impl SideBySide {
                 let mut lent = Lent::new(&words);
                 let given = lent.start();
                 let answer = engine::start(&mut words);
-                compare(&given, &lent, answer, &words)?;
+                compare(STARTING, &given, &lent, answer, &words)?;
                 Ok(answer)
             }
         }
