@@ -1,12 +1,15 @@
-//! The library and the plain engine must agree, in answers and in every word.
+//! The library and the plain engine must agree, in every number of an answer and in every word.
 
 mod lesser;
+mod through;
 
 use crate::active;
+use crate::answer::{self, ACCEPTED};
 use crate::library;
 use crate::random::Random;
 use crate::records::{
-    lively_journal, random_journal, random_record, Record, DEACTIVATE, SIGN_OF_LIFE,
+    lively_journal, random_journal, random_question, random_record, Record, DEACTIVATE,
+    SIGN_OF_LIFE,
 };
 use crate::states::Case;
 use crate::words::{self, session, ATTACHMENTS, HELD, PUBLIC, SESSIONS, WORDS};
@@ -17,6 +20,8 @@ pub struct Checked {
     pub calls: usize,
     pub refusals: [usize; 15],
     pub verdicts: usize,
+    /// Those through a role that isn't active itself.
+    pub inherited: usize,
     /// Roles that were activated and that the session's user didn't hold.
     pub lesser: usize,
     /// Active roles that open sessions lost by other calls than deactivation.
@@ -29,12 +34,16 @@ impl Checked {
         let before = state.to_vec();
         let mut other = state.to_vec();
         let answer = library::call(state, record);
-        assert_eq!(answer, words::call(&mut other, record), "{record:?}");
+        let plain = words::call(&mut other, record);
+        assert!(answer == plain, "{record:?}: {answer:#x}, {plain:#x}");
         assert!(state == other, "words after {record:?}");
         self.calls += 1;
-        self.refusals[(answer % 65536) as usize] += 1;
-        self.verdicts += (answer / 65536) as usize;
-        if answer == 0 {
+        self.refusals[usize::from(answer::refusal(answer))] += 1;
+        if answer::verdict(answer) == 1 {
+            self.verdicts += 1;
+            self.inherited += usize::from(through::is_inherited(state, record, answer));
+        }
+        if answer == ACCEPTED {
             let new = active::gone(state, &before).into_iter();
             self.lesser += new.filter(|&role| !active::is_held(state, role)).count();
             if record.get(2) != Some(&(DEACTIVATE as u8)) {
@@ -63,6 +72,9 @@ impl Checked {
             self.plays(&mut state, record);
         }
         assert!(state == case.state, "{} is not left as it was", case.name);
+        for _ in 0..2000 {
+            self.plays(&mut state, &random_question(random));
+        }
         for _ in 0..400 {
             self.plays(&mut state, &random_record(random, 16));
         }
@@ -105,6 +117,7 @@ pub fn compare(cases: &[Case]) -> Checked {
         checked.case(case, &mut random);
     }
     lesser::compare(&mut checked);
+    through::compare(&mut checked);
     for journal in [
         random_journal(&mut random, 4000),
         lively_journal(&mut random, 20_000),

@@ -1,6 +1,7 @@
 //! What the benchmark's programs share.
 
 pub mod active;
+pub mod answer;
 pub mod checks;
 pub mod library;
 pub mod random;

@@ -1,5 +1,7 @@
 //! The proved monitor, from its static library.
 
+use crate::answer;
+
 extern "C" {
     fn yermoitu_start(state: *mut u16, words: usize) -> u64;
     fn yermoitu_call(state: *mut u16, words: usize, record: *const u8, bytes: usize) -> u64;
@@ -24,7 +26,7 @@ extern "C" {
     ) -> u64;
 }
 
-/// Starting: the answer is the refusal, and 65536 times the verdict.
+/// Starting. The module `answer` takes its number apart, and that of a call.
 pub fn start(state: &mut [u16]) -> u64 {
     // SAFETY: the pointer and the length are those of one slice, and so below.
     unsafe { yermoitu_start(state.as_mut_ptr(), state.len()) }
@@ -49,7 +51,12 @@ pub fn sheet(csv: &[u8], caller: u8, out: &mut [u8]) -> u64 {
     unsafe { yermoitu_sheet(csv.as_ptr(), csv.len(), caller, out.as_mut_ptr(), out.len()) }
 }
 
-/// The question of a kind 21 with permission 0 to 4, put by an action on a press of its caller's: the answer to the record itself.
+/// The verdict of a kind 21.
+pub fn verdict(state: &mut [u16], record: &[u8]) -> u64 {
+    answer::verdict(call(state, record)).into()
+}
+
+/// The same for permission 0 to 4, where an action on a press of the caller's puts the question.
 pub fn press(state: &mut [u16], record: &[u8]) -> u64 {
     const RIGHT: [u8; 5] = [0, 1, 2, 3, 1];
     let &[_, _, _, _, owner, action, issuer, session] = record else {
@@ -73,5 +80,5 @@ pub fn press(state: &mut [u16], record: &[u8]) -> u64 {
         )
     };
     assert!(error == 0 || error == 18, "error {error} of {record:?}");
-    65536 * u64::from(error == 0)
+    u64::from(error == 0)
 }

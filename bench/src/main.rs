@@ -39,8 +39,8 @@ fn main() {
         cases.len()
     );
     println!(
-        "refusals 0 to 14 given: {:?}, verdict 1: {}",
-        checked.refusals, checked.verdicts
+        "refusals 0 to 14 given: {:?}, verdict 1: {}, through a role that isn't active itself: {}",
+        checked.refusals, checked.verdicts, checked.inherited
     );
     println!(
         "lesser roles activated: {}, active roles dropped: {}",
@@ -77,11 +77,11 @@ fn main() {
     print_sheets(&sheets);
 }
 
-/// The questions with verdict 1 that an action may put, on a press and by themselves.
+/// The questions with verdict 1 that an action may put, on a press and by themselves. An action tells no role.
 fn press_task(case: &Case) -> Task {
     let questions = case.allowed.iter().filter(|record| record[5] <= 4);
     let questions: Vec<Record> = questions.cloned().collect();
-    Task::new(&questions, [library::press, library::call], &case.state)
+    Task::new(&questions, [library::press, library::verdict], &case.state)
 }
 
 /// A line for each state: what an action on a press costs beside the kind 21 that it puts.

@@ -81,6 +81,12 @@ pub fn random_record(random: &mut Random, bound: u8) -> Record {
     record(kind, caller, &arguments)
 }
 
+/// A random kind 21, with numbers 0 to 15.
+pub fn random_question(random: &mut Random) -> Record {
+    let arguments: [u8; 3] = std::array::from_fn(|_| random.below(16));
+    record(MAY_USE, random.below(16), &arguments)
+}
+
 /// A random journal that begins with sixteen enrolments.
 pub fn random_journal(random: &mut Random, length: usize) -> Vec<Record> {
     let enrolments = (0..16).map(|i| record(ENROL, OPERATOR, &[i]));

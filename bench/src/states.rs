@@ -2,6 +2,7 @@
 
 mod lesser;
 
+use crate::answer::{refusal, verdict, ACCEPTED};
 use crate::library;
 use crate::random::Random;
 use crate::records::*;
@@ -29,7 +30,7 @@ struct Builder {
 impl Builder {
     fn new() -> Builder {
         let mut state = vec![0; WORDS];
-        assert_eq!(library::start(&mut state), 0);
+        assert_eq!(library::start(&mut state), ACCEPTED);
         Builder { state }
     }
 
@@ -37,11 +38,11 @@ impl Builder {
     fn tries(&mut self, kind: u16, caller: u8, arguments: &[u8]) -> bool {
         let call = record(kind, caller, arguments);
         let mut answer = library::call(&mut self.state, &call);
-        if answer == 14 {
+        if refusal(answer) == 14 {
             self.plays(PUBLISH, arguments[1], &[arguments[2]]);
             answer = library::call(&mut self.state, &call);
         }
-        matches!(answer, 0 | 65536)
+        refusal(answer) == 0
     }
 
     fn plays(&mut self, kind: u16, caller: u8, arguments: &[u8]) {
@@ -99,7 +100,8 @@ impl Builder {
 
     /// The verdict of kind 21.
     fn may_use(&mut self, j: u8, p: u8, i: u8, s: u8) -> bool {
-        library::call(&mut self.state, &record(MAY_USE, j, &[p, i, s])) == 65536
+        let question = record(MAY_USE, j, &[p, i, s]);
+        verdict(library::call(&mut self.state, &question)) == 1
     }
 }
 

@@ -1,10 +1,12 @@
 //! A plain engine on the words of a state, with the same answers and effects as the library.
-//! It has the checks of document 01 and of Cards 1, 2 and 4, and no proofs.
+//! It has the checks of document 01 and of Cards 1, 2 and 4, tells the role of Card 7, and has no proofs.
 
 mod effects;
 mod law;
 mod roles;
 mod sessions;
+
+use crate::answer::{refused, yes, ACCEPTED};
 
 pub const WORDS: usize = 9041;
 pub type State = [u16; WORDS];
@@ -167,45 +169,43 @@ fn activating_refusal(state: &State, call: &Call) -> u16 {
     unless(has(state[at + 1], r) != (kind == 19), 12)
 }
 
-/// An answer in the library's packing.
-fn answer(refusal: u16, verdict: u16) -> u64 {
-    u64::from(refusal) + 65536 * u64::from(verdict)
-}
-
 /// Starting: closed sessions and 0 elsewhere.
 pub fn start(state: &mut [u16]) -> u64 {
     if state.len() != WORDS {
-        return answer(1, 0);
+        return refused(1);
     }
     state.fill(0);
     for pair in state[SESSIONS..PUBLIC].chunks_exact_mut(2) {
         pair[0] = CLOSED;
     }
-    answer(0, 0)
+    ACCEPTED
 }
 
 /// A record played on a state.
 pub fn call(state: &mut [u16], record: &[u8]) -> u64 {
     let Ok(state) = <&mut State>::try_from(state) else {
-        return answer(1, 0);
+        return refused(1);
     };
     if !law::lawful(state) {
-        return answer(2, 0);
+        return refused(2);
     }
     if record.is_empty() {
-        return answer(0, 0);
+        return ACCEPTED;
     }
     let Some(call) = decode(record) else {
-        return answer(3, 0);
+        return refused(3);
     };
     let refusal = refusal(state, &call);
     if refusal != 0 {
-        return answer(refusal, 0);
+        return refused(refusal);
     }
     if call.kind == 21 {
         let [p, i, s] = call.arguments;
-        return answer(0, roles::may_use(state, call.caller, p, i, s).into());
+        return match roles::through(state, call.caller, p, i, s) {
+            Some(role) => yes((role / 16) as u8, (role % 16) as u8),
+            None => ACCEPTED,
+        };
     }
     effects::change(state, &call);
-    answer(0, 0)
+    ACCEPTED
 }

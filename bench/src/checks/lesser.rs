@@ -1,12 +1,13 @@
 //! Lesser roles, call by call: activated, refused and dropped as Card 2 says.
 
 use super::Checked;
+use crate::answer::refused;
 use crate::library;
 use crate::records::*;
 use crate::words::{held, row, session, ATTACHMENTS, WORDS};
 
 /// A call, its refusal, and the active roles of 0/0 after it.
-type Step = (u16, u8, &'static [u8], u64, u16);
+type Step = (u16, u8, &'static [u8], u16, u16);
 
 // Sets of roles of issuer 0: its cellar master is role 1, its press hand role 2.
 const NONE: u16 = 0;
@@ -148,7 +149,7 @@ impl Checked {
             let answer = self.plays(state, &record(kind, caller, arguments));
             assert_eq!(
                 (answer, state[session(0, 0) + 1]),
-                (refusal, active),
+                (refused(refusal), active),
                 "{step:?}"
             );
         }
@@ -183,6 +184,6 @@ pub fn compare(checked: &mut Checked) {
         let mut state = cellar.clone();
         state[at] ^= 1 << bit;
         let answer = checked.plays(&mut state, &record(ADD_USER, 2, &[0]));
-        assert_eq!(answer, refusal, "word {at}, bit {bit}");
+        assert_eq!(answer, refused(refusal), "word {at}, bit {bit}");
     }
 }

@@ -7,6 +7,7 @@ mod sqlite;
 
 use std::time::Instant;
 
+use bench::answer;
 use bench::library;
 use bench::random::Random;
 use bench::records::{record, Record, MAY_USE};
@@ -76,11 +77,9 @@ fn decide(state: &mut [u16]) -> Vec<Decision> {
             let [issuer, session] = [random.below(16), random.below(16)];
             let [owner, permission] = [random.below(16), random.below(16)];
             let question = record(MAY_USE, owner, &[permission, issuer, session]);
-            let verdict = match library::call(state, &question) {
-                0 => false,
-                65536 => true,
-                answer => panic!("refusal {answer}"),
-            };
+            let answer = library::call(state, &question);
+            assert_eq!(answer::refusal(answer), 0, "{question:?}");
+            let verdict = answer::verdict(answer) == 1;
             Decision {
                 issuer,
                 session,

@@ -80,48 +80,61 @@ pub fn sixteen(state: &State, at: usize) -> &[u16; 16] {
     state[at..at + 16].try_into().unwrap()
 }
 
-/// The roles that reach one of a set. A climb that stops at new ones leaves out those above them.
-fn climb(state: &State, lower: Roles, stops: impl Fn(&Roles) -> bool) -> Roles {
-    let mut seen = lower;
-    let mut pending = lower;
+/// Adds the n-th role and whatever reaches it to the roles seen, where all that reaches those seen before was seen with them.
+/// Whether it stopped at new ones: then those above them are left out.
+fn climb(state: &State, n: usize, seen: &mut Roles, stops: impl Fn(&Roles) -> bool) -> bool {
+    let mut pending = Roles::of(n / 16, 1 << (n % 16));
+    seen.join(&pending);
     while let Some(n) = pending.first() {
         pending.remove(n);
-        let new = Roles::seniors(state, n).without(&seen);
+        let new = Roles::seniors(state, n).without(seen);
         seen.join(&new);
         if stops(&new) {
-            break;
+            return true;
         }
         pending.join(&new);
     }
-    seen
+    false
 }
 
-/// Whether a role of one set reaches a role of the other: climbs from the lower ones until it meets an upper one.
-fn climbs(state: &State, upper: &Roles, lower: Roles) -> bool {
-    lower.meets(upper) || climb(state, lower, |new| new.meets(upper)).meets(upper)
+/// Whether a role of a set reaches the n-th role: climbs from that one until it meets one of the set.
+fn climbs(state: &State, upper: &Roles, n: usize) -> bool {
+    upper.has(n) || climb(state, n, &mut Roles::default(), |new| new.meets(upper))
 }
 
 /// The roles of i that reach i#r.
 pub fn above(state: &State, i: usize, r: usize) -> u16 {
-    climb(state, Roles::of(i, 1 << r), |_| false).word(i)
+    let mut seen = Roles::default();
+    climb(state, 16 * i + r, &mut seen, |_| false);
+    seen.word(i)
 }
 
 /// Whether a role that i@u holds reaches i#r.
 pub fn entitled(state: &State, i: usize, u: usize, r: usize) -> bool {
     let holds = Roles::of(i, state[held(i, u)]);
-    climbs(state, &holds, Roles::of(i, 1 << r))
+    climbs(state, &holds, 16 * i + r)
 }
 
 /// Whether j#q reaches i#r.
 pub fn reaches(state: &State, j: usize, q: usize, i: usize, r: usize) -> bool {
-    climbs(state, &Roles::of(j, 1 << q), Roles::of(i, 1 << r))
+    climbs(state, &Roles::of(j, 1 << q), 16 * i + r)
 }
 
-/// Whether an active role of i/s reaches a role that holds j%p.
-pub fn may_use(state: &State, j: usize, p: usize, i: usize, s: usize) -> bool {
+/// The first of the roles that hold j%p and that an active role of i/s reaches: climbs from the holders, in rising order.
+/// A holder that was seen is passed over: what reaches it was seen too, and wasn't active.
+pub fn through(state: &State, j: usize, p: usize, i: usize, s: usize) -> Option<usize> {
     let active = Roles::of(i, state[session(i, s) + 1]);
+    if active.is_empty() {
+        return None;
+    }
     let holders = Roles::read(sixteen(state, row(GRANTS, j, p)));
-    climbs(state, &active, holders)
+    let mut seen = Roles::default();
+    while let Some(holder) = holders.without(&seen).first() {
+        if active.has(holder) || climb(state, holder, &mut seen, |new| new.meets(&active)) {
+            return Some(holder);
+        }
+    }
+    None
 }
 
 /// The roles without a senior.
