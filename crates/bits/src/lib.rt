@@ -2,14 +2,13 @@
 // The definitions that the contracts cite are in specs/; their laws, and the proofs, in proofs/.
 ghost use mathlib.Core.Path.{_≡_};
 ghost use mathlib.Core.Bool.{false};
-ghost use Prim.Native.Nat.{ℕ, _+_, _-_, _*_, _<_, _≤_};
+ghost use Prim.Native.Nat.{ℕ, _+_, _*_, _<_, _≤_};
 ghost use lib.ListN.{length, getD};
-ghost use lib.Bits.{bitAnd};
 ghost use Rattle.bits.specs.Bit.{bit, with-bit, without-bit, Lowest};
 ghost use Rattle.bits.specs.RoleSet.{in-set, Row, Added, Union};
 ghost use Rattle.bits.specs.Update.{Masked};
 ghost use Rattle.bits.specs.Stride.{in-run, in-column};
-ghost use Rattle.bits.specs.Gather.{gather};
+ghost use Rattle.bits.specs.Gather.{gather, outside, RowGathered};
 
 pub fn has_bit(w: u16, n: u8) -> bool
     requires { ⌜ n < 16 ⌝ }
@@ -146,12 +145,25 @@ pub fn mask_column(state: &mut [u16], from: usize, count: usize, mask: u16)
 // The bits of sixteen words, from state[at] on, that are not bits of the allowed words.
 pub fn gather_row(state: &[u16], at: usize, allowed: RoleSet) -> u16
     requires { ⌜ at + 16 ≤ length (now state) ⌝ }
-    ensures { λ r. ⌜ r ≡ gather 16 (λ i. bitAnd (getD (now (state .entry)) (at + i) 0) (65535 - getD (allowed .words) i 0)) ⌝ }
+    ensures { λ r. ⌜ r ≡ gather 16 (λ i. outside (getD (now (state .entry)) (at + i) 0) (getD (allowed .words) i 0)) ⌝ }
 {
     let mut found = 0u16;
     for i in 0..16 {
         let a = allowed.words[i];
         found = found | (state[at + i] & !a);
+    }
+    found
+}
+
+// The bits found so far, and those of sixteen words from state[at] on that are not bits of the allowed words, each in its place.
+pub fn stray_row(state: &[u16], at: usize, allowed: RoleSet, mut found: RoleSet) -> RoleSet
+    requires { ⌜ at + 16 ≤ length (now state) ⌝ }
+    ensures { λ r. ⌜ RowGathered (now (state .entry)) at (allowed .words) (found .words) (r .words) ⌝ }
+{
+    for i in 0..16 {
+        let a = allowed.words[i];
+        let f = found.words[i];
+        found.words[i] = f | (state[at + i] & !a);
     }
     found
 }

@@ -1,5 +1,5 @@
 -- Rows of sixteen words against a set: whether each of the row's bits is in the set.
-use mathlib.Core.Path.{_≡_, ap, sym, _∙_}
+use mathlib.Core.Path.{_≡_, refl, ap, sym, _∙_}
 use mathlib.Core.Logic.{_↔_, _⊎_, inl, inr}
 use mathlib.Core.Bool.{true}
 use mathlib.Core.List.{List}
@@ -10,9 +10,9 @@ use lib.ListN.{getD, replicate, length-replicate, getD-replicate, List·getD-eq-
 use mir.Syntax.{w16}
 use mir.Val.{Fits}
 use Rattle.bits.specs.Bit.{bit}
-use Rattle.bits.specs.Gather.{gather}
+use Rattle.bits.specs.Gather.{gather, outside, RowGathered}
 use Rattle.bits.proofs.Booleans.{below-or-not}
-use Rattle.bits.proofs.Gather.{gather-zero, stray-zero}
+use Rattle.bits.proofs.Gather.{gather-zero, or-zero, stray-zero}
 use Rattle.mtas.specs.Hierarchy.{Role, _#_, nth-role}
 use Rattle.hierarchy.specs.Links.{linked, among, Subset}
 use Rattle.hierarchy.specs.Freed.{Due}
@@ -61,3 +61,16 @@ all-due {links} {set} {k} h wl ws e = rw e (
     row-link a l m =
         let e : 16 * (16 * (nth-role k) .issuer + (nth-role k) .number) + a .issuer ≡ 16 * k + a .issuer = omega arith in
         linked-bit links a (nth-role k) (omega arith, (omega arith, (l, (m, tt)))) ∙ ap (λ p. bit (getD links p 0) (a .number)) e
+
+-- no bit is in any of sixteen words
+abbrev pub Nothing : List ℕ → Type 0
+Nothing words = (i : ℕ) → i < 16 → getD words i 0 ≡ 0
+
+-- nothing is lacking with the row of the k-th role: nothing was before, and all of its direct seniors are in the set
+pub none-lacking : {links set before after : List ℕ} {k : ℕ} → k < 256 → Wide links → Wide set → RowGathered links (16 * k) set before after
+    → Nothing after → Nothing before × Due (linked links) set (nth-role k)
+none-lacking {links} {set} {before} {after} {k} h wl ws g z =
+    (λ i l. both i l .0, all-due {k = k} h wl ws refl .0 (gather-zero 16 _ .1 (λ i l. both i l .1)))
+  where
+    both : (i : ℕ) → i < 16 → (getD before i 0 ≡ 0) × (outside (getD links (16 * k + i) 0) (getD set i 0) ≡ 0)
+    both i l = or-zero _ _ .0 (sym (g .each i l) ∙ z i l)

@@ -74,15 +74,22 @@ fn visit(links: &[u16], freed: RoleSet, k: usize, slide: &[u16]) -> RoleSet
     }
 }
 
-// One visit of each role of an order, whatever it is.
-fn visit_in_order(links: &[u16], mut freed: RoleSet, order: Order, slide: &[u16]) -> RoleSet
+// The set with the roles of an order, if each comes after its direct seniors; else the set as it was.
+// What a role lacks is gathered over all of them and looked at once, since a test of each would hold the next one up.
+fn visit_in_order(links: &[u16], freed: RoleSet, order: Order, slide: &[u16]) -> RoleSet
     requires { ⌜ (length (now links) ≡ links-length) × (order .count ≤ 256) × Slide (now slide) ⌝ }
     ensures { λ r. ⌜ Freed (linked (now (links .entry))) (freed .words) (r .words) ⌝ }
 {
     let count = order.count;
+    let mut visited = freed;
+    let mut lacking = RoleSet::empty();
     for t in 0..count {
         let k = order.roles[t] as usize;
-        freed = visit(links, freed, k, slide);
+        lacking = bits::stray_row(links, 16 * k, visited, lacking);
+        visited = join(visited, k, slide);
+    }
+    if lacking.gather() == 0 {
+        return visited;
     }
     freed
 }

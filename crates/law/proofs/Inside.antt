@@ -12,7 +12,8 @@ use Rattle.bits.specs.Bit.{bit, with-bit}
 use Rattle.bits.proofs.Booleans.{and-left, and-right, and-intro}
 use Rattle.bits.proofs.Bit.{bit-0, bit-not, bit-with}
 use Rattle.bits.proofs.Gather.{stray-zero}
-use Rattle.law.specs.Stray.{only-if, outside}
+use Rattle.bits.specs.Gather.{outside}
+use Rattle.law.specs.Stray.{only-if}
 
 only-bit : (b : Bool) (a n : ℕ) → bit (only-if b a) n ≡ b && bit a n
 only-bit true a n = refl

@@ -5,7 +5,8 @@ use Prim.Native.Nat.{ℕ, _+_, _*_, _<_}
 use lib.ListN.{getD}
 use Rattle.bits.specs.Bit.{bit}
 use Rattle.bits.proofs.Gather.{gather-ext}
-use Rattle.law.specs.Stray.{only-if, outside, rows-stray}
+use Rattle.bits.specs.Gather.{outside}
+use Rattle.law.specs.Stray.{only-if, rows-stray}
 
 pub rows-ext : (ws : List ℕ) (from j present : ℕ) {a b : ℕ → ℕ} → ((i : ℕ) → i < 16 → a i ≡ b i) → rows-stray ws from j present a ≡ rows-stray ws from j present b
 unfolding rows-stray

@@ -2,22 +2,18 @@
 use mathlib.Core.Path.{_≡_}
 use mathlib.Core.Bool.{Bool, cond}
 use mathlib.Core.List.{List}
-use Prim.Native.Nat.{ℕ, _+_, _-_, _*_, _<_}
-use lib.Bits.{bitAnd, bitOr}
+use Prim.Native.Nat.{ℕ, _+_, _*_, _<_}
+use lib.Bits.{bitOr}
 use lib.Dec.{eqb}
 use lib.ListN.{getD}
 use Rattle.bits.specs.Bit.{bit, with-bit}
-use Rattle.bits.specs.Gather.{gather}
+use Rattle.bits.specs.Gather.{gather, outside}
 use Rattle.mtas.specs.Layout.{enrolled-issuers, trusted, users, roles, permissions, held, public-roles, holders-at, seniors-at, read}
 use Rattle.sessions.specs.Lesser.{stranger, lesser}
 
 -- w where the test holds, else no bit
 abbrev pub only-if : Bool → ℕ → ℕ
 only-if test w = cond test w 0
-
--- the bits of w that are not bits of a
-abbrev pub outside : ℕ → ℕ → ℕ
-outside w a = bitAnd w (65535 - a)
 
 -- 'trust only among enrolled issuers, and each enrolled one trusts itself'; here says whether i is enrolled
 unfoldable pub trust-stray : List ℕ → ℕ → Bool → ℕ
@@ -59,10 +55,6 @@ pub record Trusting (ws : List ℕ) (j : ℕ) (words : List ℕ) : Type 0 where
 -- after: the set before where the test holds, else no role
 pub record OnlyIf (test : Bool) (before after : List ℕ) : Type 0 where
   pub each : (i : ℕ) → getD after i 0 ≡ only-if test (getD before i 0)
-
--- after: the stray bits found before, and those of a row of sixteen words that may have only the bits of allowed words
-pub record RowGathered (ws : List ℕ) (at : ℕ) (may before after : List ℕ) : Type 0 where
-  pub each : (i : ℕ) → i < 16 → getD after i 0 ≡ bitOr (getD before i 0) (outside (getD ws (at + i) 0) (getD may i 0))
 
 -- 'grants and attachments only between present ends': word i of row p of j in a region may have the bits of a i, if bit p of present is set
 abbrev pub link-stray : List ℕ → ℕ → ℕ → ℕ → (ℕ → ℕ) → ℕ → ℕ → ℕ

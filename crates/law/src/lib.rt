@@ -10,7 +10,8 @@ ghost use Rattle.mtas.specs.Layout.{state-length};
 ghost use Rattle.mtas.specs.LawTest.{lawful-words};
 ghost use Rattle.sessions.specs.Lesser.{Plain};
 ghost use Rattle.law.specs.Supported.{Surveyed};
-ghost use Rattle.law.specs.Stray.{only-if, outside, own-stray, held-stray, OnlyIf, Trusting, RowGathered, rows-stray, issuer-stray, issuer-doubt};
+ghost use Rattle.bits.specs.Gather.{outside};
+ghost use Rattle.law.specs.Stray.{only-if, own-stray, held-stray, OnlyIf, Trusting, rows-stray, issuer-stray, issuer-doubt};
 
 // w where the test holds, else no bit.
 fn only_if(test: bool, w: u16) -> u16
@@ -88,24 +89,6 @@ fn roles_if(test: bool, set: bits::RoleSet) -> bits::RoleSet
     if test { set } else { bits::RoleSet::empty() }
 }
 
-// The stray bits found so far, and those of a row of sixteen words from state[at] on, which may have only allowed roles.
-fn stray_row(
-    state: &[u16],
-    at: usize,
-    allowed: bits::RoleSet,
-    mut found: bits::RoleSet,
-) -> bits::RoleSet
-    requires { ⌜ at + 16 ≤ length (now state) ⌝ }
-    ensures { λ r. ⌜ RowGathered (now (state .entry)) at (allowed .words) (found .words) (r .words) ⌝ }
-{
-    for i in 0..16 {
-        let a = allowed.words[i];
-        let f = found.words[i];
-        found.words[i] = f | (state[at + i] & !a);
-    }
-    found
-}
-
 // The sixteen rows of issuer j in the region from state[from] on: row p has only allowed roles, and none where bit p of present is not set.
 // The bits of present are taken one by one, and the rows gathered side by side: so the compiler takes each row whole.
 fn stray_rows(state: &[u16], from: usize, j: usize, present: u16, allowed: bits::RoleSet) -> u16
@@ -116,7 +99,7 @@ fn stray_rows(state: &[u16], from: usize, j: usize, present: u16, allowed: bits:
     let mut rest = present;
     for p in 0..16 {
         let row = roles_if(rest % 2 == 1, allowed);
-        found = stray_row(state, from + 16 * (16 * j + p), row, found);
+        found = bits::stray_row(state, from + 16 * (16 * j + p), row, found);
         rest = rest / 2;
     }
     found.gather()

@@ -4,10 +4,10 @@ use mathlib.Core.Path.{_≡_, refl}
 use Prim.Native.Nat.{_-_, _≤_}
 use native.Mathlib.Omega.{arith}
 use Rattle.bits.specs.Bit.{bit}
-use Rattle.bits.specs.Gather.{gather}
+use Rattle.bits.specs.Gather.{gather, outside}
 use Rattle.bits.proofs.Gather.{gather-more}
 use Rattle.mtas.specs.Layout.{users, roles, held, read}
-use Rattle.law.specs.Stray.{only-if, outside, held-stray}
+use Rattle.law.specs.Stray.{only-if, held-stray}
 use Rattle.law.proofs.stray_held.Statement.{statement}
 use Rattle.law.proofs.stray_held.Tie as tie
 

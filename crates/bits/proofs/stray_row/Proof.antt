@@ -5,12 +5,12 @@ use Prim.Native.Nat.{_+_, _-_, _≤_}
 use native.Mathlib.Omega.{arith}
 use lib.Bits.{bitOr}
 use lib.ListN.{length, getD, length-set}
+use Rattle.bits.specs.Gather.{outside}
 use Rattle.bits.specs.Stride.{in-run}
 use Rattle.bits.specs.Update.{Updated}
 use Rattle.bits.proofs.Stride.{run-in, run-none, run-more}
-use Rattle.law.specs.Stray.{outside}
-use Rattle.law.proofs.stray_row.Statement.{statement}
-use Rattle.law.proofs.stray_row.Tie as tie
+use Rattle.bits.proofs.stray_row.Statement.{statement}
+use Rattle.bits.proofs.stray_row.Tie as tie
 
 abbrev Inv-loop : tie.InvT-loop
 Inv-loop state at allowed found₀ i₀ found i =
