@@ -60,7 +60,7 @@ module _ (ws : List ℕ) (wide : (k : ℕ) → get_or ws k 0 < 65536) (O : InOrd
         unheld : (n : ℕ) → reached_in ws i s n ≡ true → ⊥
         unheld n b =
             let A = authorized_sound (view ws) (attachments (view ws)) i u n b in
-            let l = (view_numbered ws (holds i u A.through) A.is_held_lem).1.0 in
+            let l = (view_numbered ws (holds i u A.through) A.is_held).1.0 in
             omega arith
 
   pub reached : (i s u r : ℕ) → Stands (active i s u r) → Authorized (view ws) (attachments (view ws)) i u r
@@ -99,7 +99,7 @@ module _ (ws : List ℕ) (wide : (k : ℕ) → get_or ws k 0 < 65536) (O : InOrd
     role_there i u r A = go A.is_reached
       where
         go : {b : Role} → Reaches (attachments (view ws)) (i # A.through) b → Stands (role b.issuer b.number)
-        go itself = S.supported (holds i u A.through) (role i A.through) _ _ refl A.is_held_lem (there here)
+        go itself = S.supported (holds i u A.through) (role i A.through) _ _ refl A.is_held (there here)
         go (down {b} {c} p e) = S.supported (attached c.issuer c.number b.issuer b.number) (role c.issuer c.number) _ _ refl e here
 
     session_open : (i s u r : ℕ) → Stands (active i s u r) → Stands (opened i s u)

@@ -146,10 +146,14 @@ module _ (st : State) (L : Lawful st) where
 with_the_user : {c u : ℕ} (i s v r h : ℕ) → UserRemoved c u (holds i v h) → UserRemoved c u (active i s v r)
 with_the_user i s v r h UserRemoved.what_it_held = UserRemoved.their_roles
 
+-- what enrolling sets is listed
+enrolment_new : {i : ℕ} (f : Fact) → Enrolled i f → In f (enrolment i)
+enrolment_new f Enrolled.the_enrolment = here
+enrolment_new f Enrolled.trust_in_itself = there here
+
 pub cascades : Cascades
 cascades = record {
-  enrols = λ c i st L e. rw leaves (adds st (enrolment i) (Enrolled i) (Enrolled.the_enrolment, (Enrolled.trust_in_itself, tt))
-      (λ f. elim [ Enrolled.the_enrolment ↦ here | Enrolled.trust_in_itself ↦ there here ]));
+  enrols = λ c i st L e. rw leaves (adds st (enrolment i) (Enrolled i) (Enrolled.the_enrolment, (Enrolled.trust_in_itself, tt)) enrolment_new);
   strikes = λ c i st L e. rw leaves (breaks st L (enrolled i) (search (passed _ _ _ e)));
   gives_trust = λ c j st L e. rw leaves (adds_one st (trusts c j));
   withdraws_trust = λ c j st L e. rw leaves (withdraws st L c j (search (passed _ _ _ e)) (search (passed _ _ _ e)));

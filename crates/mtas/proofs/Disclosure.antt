@@ -2,7 +2,7 @@
 use mathlib.Core.Path.{◌≡◌, refl, ap, ap₂, sym, ◌∙◌, fun_ext}
 use mathlib.Core.Bool.{◌&&◌}
 use Prim.Native.Nat.{ℕ}
-use Rattle.mtas.specs.Fact.{Fact, enrolled, trusts, user, role, public, holds, attached, opened, active}
+use Rattle.mtas.specs.Fact.{Fact, enrolled, trusts, user, role, permission, public, holds, granted, attached, opened, active}
 use Rattle.mtas.specs.State.{State}
 use Rattle.mtas.specs.Hierarchy.{◌#◌, reaches}
 use Rattle.mtas.specs.Law.{attachments}
@@ -24,6 +24,13 @@ own_affair c (user i u) (its_users n) e = n e
 own_affair c (holds i u r) (held_roles n) e = n e
 own_affair c (opened i s u) (its_sessions n) e = n e
 own_affair c (active i s u r) (active_roles n) e = n e
+own_affair c (enrolled _) x e = elim x [ ]
+own_affair c (trusts _ _) x e = elim x [ ]
+own_affair c (role _ _) x e = elim x [ ]
+own_affair c (permission _ _) x e = elim x [ ]
+own_affair c (public _ _) x e = elim x [ ]
+own_affair c (granted _ _ _ _) x e = elim x [ ]
+own_affair c (attached _ _ _ _) x e = elim x [ ]
 
 no_enrolment : {c i : ℕ} → OthersAffair c (enrolled i) → ⊥
 no_enrolment = elim [ ]

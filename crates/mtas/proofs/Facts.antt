@@ -50,12 +50,13 @@ listed_in (g ∷ l) {f} h = go (λ k. listed_in l {f = f} k) (same f g) refl
 
 pub in_one : {g f : Fact} → In g (f ∷ []) → f ≡ g
 in_one {g} here = refl
+in_one {g = g} {f = f} (there m) = elim m [ ]
 
 abbrev pub All : (Fact → Type 0) → List Fact → Type 0
 All P [] = Unit
 All P (f ∷ l) = P f × All P l
 
-pub all_in : (P : Fact → Type 0) {l : List Fact} {f : Fact} → All P l → In f l → P f
+pub all_in : (P : Fact → Type 0) {f : Fact} {l : List Fact} → All P l → In f l → P f
 all_in P a here = a.0
 all_in P a (there m) = all_in P a.1 m
 

@@ -39,7 +39,7 @@ first-and-rest : (a b : Bool) → elim a as (λ _. Bool) [ true ↦ b | false �
 first-and-rest true b h = (refl, h)
 first-and-rest false b h = absurd (clash h refl)
 
-all_of_elim : (t : Fact → Bool) {l : List Fact} {f : Fact} → In f l → all_of t l ≡ true → t f ≡ true
+all_of_elim : (t : Fact → Bool) {f : Fact} {l : List Fact} → In f l → all_of t l ≡ true → t f ≡ true
 unfolding all_of
 all_of_elim t {f} (here {l}) h = (first-and-rest (t f) (all_of t l) h).0
 all_of_elim t (there {g} {l} m) h = all_of_elim t m (first-and-rest (t g) (all_of t l) h).1

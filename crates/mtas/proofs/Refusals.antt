@@ -77,7 +77,7 @@ still_in_order [] r h = h
 still_in_order {l} {m} (g ∷ gs) r h =
     and_intro (among_numbers (cause g) m) (in_order (from_first (cause g) m) gs)
     (still_among (cause g) r (and_left (among_numbers (cause g) l) (in_order (from_first (cause g) l) gs) h))
-    (still_in_order gs (rest_from (cause g) r) (and_right (among_numbers (cause g) l) (in_order (from_first (cause g) l) gs) h))
+    (still_in_order {l = from_first (cause g) l} {m = from_first (cause g) m} gs (rest_from (cause g) r) (and_right (among_numbers (cause g) l) (in_order (from_first (cause g) l) gs) h))
 
 abbrev all_causes : List Cause → List Guard
 all_causes [] = []

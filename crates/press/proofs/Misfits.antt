@@ -39,6 +39,7 @@ some_elim (true ∷ l) h = inl refl
 some_elim (false ∷ l) h = inr (some_elim l h)
 
 some_intro : (l : List Bool) → Some l → some_of l ≡ true
+some_intro [] h = elim h [ ]
 some_intro (b ∷ l) (inl h) = or_left b (some_of l) h
 some_intro (b ∷ l) (inr h) = or_right b (some_of l) (some_intro l h)
 

@@ -26,14 +26,14 @@ follow_edge (Follow.one_more f h w) g = a_byte refl refl
 -- with a field in front they are a row
 pub row_of : {b t c ns : List ℕ} → Field b t → Follow c ns → Row (b ++ c) (t ∷ map decimal ns)
 row_of {b = b} {t = t} f Follow.no_more = subst (λ y. Row y (t ∷ [])) (sym (append-nil b)) (Row.last_field f)
-row_of f (Follow.one_more g h w) = Row.one_more f (row_of g w)
+row_of {b = b} {t = t} f (Follow.one_more {b = b'} {c = c} {ns = ns} {n = n} g h w) = Row.one_more f (row_of {b = b'} g w)
 
 abbrev pub Small : List ℕ → Type 0
 Small [] = Unit
 Small (n ∷ ns) = (n ≤ 15) × Small ns
 
-pub row_is : {b t : List ℕ} (ns : List ℕ) → Small ns → Row b (t ∷ map decimal ns) → (d : List ℕ) × (c : List ℕ) × (b ≡ d ++ c) × Field d t × Follow c ns
-row_is {b = b} [] s w = (b, [], sym (append-nil b), (row_laws.one _ _).0 w, Follow.no_more)
+pub row_is : (ns : List ℕ) {b t : List ℕ} → Small ns → Row b (t ∷ map decimal ns) → (d : List ℕ) × (c : List ℕ) × (b ≡ d ++ c) × Field d t × Follow c ns
+row_is [] {b = b} s w = (b, [], sym (append-nil b), (row_laws.one _ _).0 w, Follow.no_more)
 row_is (n ∷ ns) (h, s) w =
     let (d, c, q, f, v) = (row_laws.more _ _ _ _).0 w in
     let (e, g, p, k, z) = row_is ns s v in

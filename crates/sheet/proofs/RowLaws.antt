@@ -16,6 +16,7 @@ row_laws = record { some = some; one = λ b t. (alone, Row.last_field); more = �
 
     alone : {b t : List ℕ} → Row b (t ∷ []) → Field b t
     alone (Row.last_field f) = f
+    alone {t = t} (Row.one_more {b = b} {c = c} _ w) = elim w [ ]
 
     first : {b t u : List ℕ} {ts : List (List ℕ)} → Row b (t ∷ u ∷ ts) → (d : List ℕ) × (c : List ℕ) × (b ≡ d ++ (COMMA ∷ c)) × Field d t × Row c (u ∷ ts)
     first (Row.one_more {b = d} {c = c} f w) = (d, c, refl, f, w)
