@@ -1,5 +1,7 @@
 // Bits of 16-bit words, bytes, sets of roles, and words of a lent slice masked or gathered.
 // The definitions that the contracts cite are in specs/; their laws, and the proofs, in proofs/.
+#![tactic(auto)]
+
 ghost use Rattle.std.specs.Prelude.{◌≡◌, false, ℕ, ◌+◌, ◌*◌, ◌<◌, ◌≤◌, length, get_or};
 ghost use Rattle.bits.specs.Bit.{bit, with_bit, without_bit, Lowest};
 ghost use Rattle.bits.specs.RoleSet.{in_set, size, Row, Added, Union};

@@ -1,5 +1,6 @@
 // Document 01's twelve press-house cases, played through start and call. A line for each case: its letter, the refusal, the verdict, and the issuer and number of the role that gave a yes.
 // After B the word of 1%5's holders among issuer 0's roles is written too: the grant is gone.
+#![tactic(auto)]
 use libc::STDOUT_FILENO;
 use monitor::Answer;
 

@@ -1,4 +1,5 @@
 // The facts of a state as data, where its words say each, and whether it stands.
+#![tactic(auto)]
 ghost use Rattle.std.specs.Prelude.{◌≡◌, [], ◌∷◌, length};
 ghost use Rattle.mtas.specs.Layout.{state_length, view};
 ghost use Rattle.mtas.specs.LawTest.{LawfulWords};

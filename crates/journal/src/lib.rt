@@ -1,4 +1,5 @@
 // The journal reader: a journal is records end to end, and each is handed back as a part of the journal's own bytes.
+#![tactic(auto)]
 ghost use Rattle.std.specs.Prelude.{◌≡◌, ◌+◌, ◌-◌, ◌≤◌, length, take, drop};
 ghost use Rattle.mtas.specs.Record.{kind_of, caller_of};
 ghost use Rattle.mtas.specs.Journal.{first_of};

@@ -1,4 +1,5 @@
 // A printed line of the programs, as bytes.
+#![tactic(auto)]
 ghost use Rattle.std.specs.Prelude.{◌≡◌, [], ◌∷◌, ◌+◌, ◌≤◌, ◌<◌, length};
 ghost use Rattle.mtas.specs.Journal as Journal;
 ghost use Rattle.lines.specs.Decimal.{decimal};

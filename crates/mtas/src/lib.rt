@@ -1,1 +1,2 @@
 // The model: definitions in specs/, theorems in proofs/. Nothing runs here.
+#![tactic(auto)]

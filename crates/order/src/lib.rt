@@ -1,4 +1,5 @@
 // An order in which to visit roles. It is a hint: a good one makes the acyclicity test quick, and any one leaves its answer right.
+#![tactic(auto)]
 ghost use Rattle.std.specs.Prelude.{◌≡◌, ◌+◌, ◌<◌, ◌≤◌, length};
 ghost use Rattle.mtas.specs.Layout.{links_length};
 

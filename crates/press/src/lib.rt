@@ -1,4 +1,5 @@
 // The presses on the floor: an action on a press goes ahead where the desk, called by the press's owner, says yes.
+#![tactic(auto)]
 ghost use Rattle.std.specs.Prelude.{◌≡◌};
 ghost use Rattle.mtas.specs.Monitor.{monitor};
 ghost use Rattle.press.specs.Stages.{next_stage};

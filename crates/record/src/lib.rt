@@ -1,4 +1,5 @@
 // The call record: its bytes decoded into a caller and one of twenty-three calls, a call's arguments, and bytes encoded.
+#![tactic(auto)]
 ghost use Rattle.std.specs.Prelude.{◌≡◌, [], ◌∷◌, ◌≤◌, take};
 ghost use Rattle.mtas.specs.Record.{kind_at, fill, record_of};
 ghost use Rattle.record.specs.Decoded.{call_of, request_of, Decodes, Formed};

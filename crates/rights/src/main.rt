@@ -1,4 +1,5 @@
 // The journal program: plays the journal on standard input on a state of its own, and prints a line for each record and a last one.
+#![tactic(auto)]
 use libc::{STDERR_FILENO, STDIN_FILENO, STDOUT_FILENO};
 
 // One byte more than the limit is read: then the journal is too long, whatever follows.

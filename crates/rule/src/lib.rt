@@ -1,4 +1,5 @@
 // The table of the calls as data (document 01, 'When a call is turned down'): the causes of refusal in order, and the effect.
+#![tactic(auto)]
 ghost use Rattle.std.specs.Prelude.{[], ◌∷◌};
 ghost use Rattle.mtas.specs.Layout.{view};
 ghost use Rattle.mtas.specs.LawTest.{LawfulWords};

@@ -1,4 +1,5 @@
 // An estate's sheet, CSV as RFC 4180 has it, made into call records for one caller.
+#![tactic(auto)]
 ghost use Rattle.std.specs.Prelude.{◌≡◌, ℕ, ◌≤◌, length};
 ghost use Rattle.sheet.specs.Reading.{rows};
 ghost use Rattle.sheet.specs.Caller.{caller_in, named_of};
@@ -49,7 +50,7 @@ fn write(csv: &[u8], caller: u8, out: &mut [u8])
         let made = record::record_of(call.kind, caller, call.count, call.slots);
         let len = made.len;
         let bytes = made.bytes;
-        bytes::copy(&bytes[..len], &mut out[used..]);
+        out[used..used + len].copy_from_slice(&bytes[..len]);
         used += len;
         at += next;
     }

@@ -1,5 +1,6 @@
 // The sheet program: makes records of the sheet on standard input, for the caller that its one argument names, on standard output.
 // Where it can't, it writes one line to standard error and nothing to standard output, but for records whose writing failed midway.
+#![tactic(auto)]
 ghost use Rattle.std.specs.Prelude.{◌≤◌, length};
 
 use libc::{STDERR_FILENO, STDIN_FILENO, STDOUT_FILENO};

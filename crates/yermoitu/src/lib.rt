@@ -1,5 +1,6 @@
 // The monitor, the sheet's converter and the presses for programs in C and Rust to link. `include/yermoitu.h` declares the functions:
 // a slice is there a pointer and the number of its elements. An answer is one number: `packed_answer`, `packed_sheet` or a press's error.
+#![tactic(auto)]
 ghost use Rattle.std.specs.Prelude.{◌≡◌};
 ghost use Rattle.mtas.specs.Monitor.{start, monitor};
 ghost use Rattle.monitor.specs.Contract.{answer_of};

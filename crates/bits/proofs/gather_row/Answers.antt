@@ -1,0 +1,16 @@
+use mathlib.Core.Path.{◌≡◌, refl}
+use native.Mathlib.Numerals.{add-one}
+use native.Mathlib.Omega.{arith}
+use Rattle.bits.specs.Gather.{gather}
+use Rattle.bits.proofs.gather_row.Goals as goal
+
+pub loop-i-init : goal.loop-i-init
+unfolding gather
+loop-i-init c = (omega arith, refl)
+
+pub loop-i-preserved : goal.loop-i-preserved
+unfolding gather
+loop-i-preserved c = (omega arith, rw (add-one, c.loop-i.invariant.1))
+
+pub returns : goal.returns
+returns c = let end : c.loop-i.i ≡ 16 = omega arith in rw end at c.loop-i.invariant.1
