@@ -6,7 +6,7 @@ ghost use Rattle.mtas.specs.LawTest.{LawfulWords};
 ghost use Rattle.facts.specs.Table.{fact_of, Above, Unless, IsPlace, UserOf};
 
 // Users have sixteen bits, since a closed session's is 65535.
-#[derive(Drop)]
+#[derive(Clone, Copy)]
 pub enum Fact {
     Enrolled(u8),
     Trusts(u8, u8),

@@ -11,7 +11,7 @@ use facts::{Fact, user_of};
 use record::Call;
 
 // A cause of refusal, with its number, or none.
-#[derive(Drop)]
+#[derive(Clone, Copy)]
 pub enum Guard {
     Passed,
     Absent(u16, Fact),
