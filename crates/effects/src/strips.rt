@@ -7,7 +7,7 @@ ghost use Rattle.effects.specs.Strips.{strips, Counted, HasStrip, IsStrip, Lies,
 use facts::Fact;
 
 // A word, words side by side, or words sixteen apart: where they begin, how many they are, and the bits that they keep.
-#[derive(Drop)]
+#[derive(Clone, Copy)]
 pub enum Strip {
     Word(usize, u16),
     Run(usize, usize, u16),

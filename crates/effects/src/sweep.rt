@@ -8,7 +8,7 @@ use crate::strips::all_but;
 use facts::Fact;
 
 // The sessions from the first on, of anyone or of one user, close or keep these roles. Session i/s is the one numbered 16 * i + s.
-#[derive(Drop)]
+#[derive(Clone, Copy)]
 pub struct Sweep {
     pub first: usize,
     pub count: usize,
@@ -19,7 +19,7 @@ pub struct Sweep {
 }
 
 // The two words of a session.
-#[derive(Drop)]
+#[derive(Clone, Copy)]
 pub struct Pair {
     pub user: u16,
     pub roles: u16,

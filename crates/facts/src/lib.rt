@@ -1,5 +1,6 @@
 // The facts of a state as data, where its words say each, and whether it stands.
 #![tactic(auto)]
+
 ghost use Rattle.std.specs.Prelude.{◌≡◌, [], ◌∷◌, length};
 ghost use Rattle.mtas.specs.Layout.{state_length, view};
 ghost use Rattle.mtas.specs.LawTest.{LawfulWords};
@@ -23,7 +24,7 @@ pub enum Fact {
 
 // Where a fact is said: nowhere, for one with a number above 15; a bit of a word; a word that is a number;
 // a bit of the second word while the first is a number.
-#[derive(Drop)]
+#[derive(Clone, Copy)]
 pub enum Place {
     Nowhere,
     Bit(usize, u8),

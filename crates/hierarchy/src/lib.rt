@@ -15,7 +15,7 @@ pub use circles::acyclic;
 pub use lowest::{Found, lowest_reached};
 
 // A climb: the roles seen, and those whose direct seniors are seen too.
-#[derive(Drop)]
+#[derive(Clone, Copy)]
 struct Climb {
     seen: RoleSet,
     done: RoleSet,

@@ -9,7 +9,7 @@ use super::Climb;
 use bits::RoleSet;
 
 // A role, by its issuer and its number, or none.
-#[derive(Drop)]
+#[derive(Clone, Copy)]
 pub enum Found {
     Role(u8, u8),
     Nothing,

@@ -1,12 +1,13 @@
 // The journal reader: a journal is records end to end, and each is handed back as a part of the journal's own bytes.
 #![tactic(auto)]
+
 ghost use Rattle.std.specs.Prelude.{◌≡◌, ◌+◌, ◌-◌, ◌≤◌, length, take, drop};
 ghost use Rattle.mtas.specs.Record.{kind_of, caller_of};
 ghost use Rattle.mtas.specs.Journal.{first_of};
 ghost use Rattle.journal.specs.Found.{found_of, Inside};
 
 // What the bytes from a place on begin with: nothing, a whole record of so many bytes, or one that is not whole.
-#[derive(Drop)]
+#[derive(Clone, Copy)]
 pub enum Found {
     NoMore,
     Whole(usize),

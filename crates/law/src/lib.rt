@@ -141,7 +141,7 @@ fn doubt_of(state: &[u16], i: usize) -> u16
 }
 
 // What a survey of all issuers' words has found: stray bits, and what is doubtful in sessions.
-#[derive(Drop)]
+#[derive(Clone, Copy)]
 struct Found {
     stray: u16,
     doubt: u16,
@@ -162,7 +162,7 @@ fn survey(state: &[u16]) -> Found
 
 // What the law test tells: whether the words are a lawful state, and whether no session of it is to be looked at more closely,
 // since each user holds its active roles itself.
-#[derive(Drop)]
+#[derive(Clone, Copy)]
 pub struct Law {
     pub lawful: bool,
     pub plain: bool,

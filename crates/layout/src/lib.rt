@@ -1,5 +1,6 @@
 // Where the words of a state stand (document 01, 'The state'): the regions' beginnings and lengths, and the place of each word.
 #![tactic(auto)]
+
 ghost use Rattle.std.specs.Prelude.{◌≡◌};
 ghost use Rattle.mtas.specs.Layout.{address, trusted, users, roles, permissions, held, holders, seniors, session_user, active_roles, public_roles};
 

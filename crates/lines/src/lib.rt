@@ -1,5 +1,6 @@
 // A printed line of the programs, as bytes.
 #![tactic(auto)]
+
 ghost use Rattle.std.specs.Prelude.{◌≡◌, [], ◌∷◌, ◌+◌, ◌≤◌, ◌<◌, length};
 ghost use Rattle.mtas.specs.Journal as Journal;
 ghost use Rattle.lines.specs.Decimal.{decimal};
@@ -7,7 +8,7 @@ ghost use Rattle.lines.specs.Text.{field, text_of, error_text};
 ghost use Rattle.lines.specs.Written.{Extends, Exactly, Appended};
 
 // The first len bytes are what was written; every line fits.
-#[derive(Drop)]
+#[derive(Clone, Copy)]
 pub struct Buffer {
     pub bytes: [u8; 64],
     pub len: usize,

@@ -11,7 +11,7 @@ use hierarchy::Found;
 use record::Decoded;
 
 // A refusal (0 for accepted), a verdict, and the role that gave a yes: its issuer and its number, 255 and 255 without a yes.
-#[derive(Drop)]
+#[derive(Clone, Copy)]
 pub struct Answer {
     pub refusal: u16,
     pub verdict: u16,

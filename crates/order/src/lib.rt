@@ -1,12 +1,13 @@
 // An order in which to visit roles. It is a hint: a good one makes the acyclicity test quick, and any one leaves its answer right.
 #![tactic(auto)]
+
 ghost use Rattle.std.specs.Prelude.{◌≡◌, ◌+◌, ◌<◌, ◌≤◌, length};
 ghost use Rattle.mtas.specs.Layout.{links_length};
 
 use bits::RoleSet;
 
 // The first count of these roles, 16 i + r for role r of issuer i.
-#[derive(Drop)]
+#[derive(Clone, Copy)]
 pub struct Order {
     pub roles: [u8; 256],
     pub count: usize,

@@ -32,7 +32,7 @@ const EMPTY: u8 = 4;
 const CHECK_ACCESS: u16 = 21;
 
 // The stage that an action leads to.
-#[derive(Drop)]
+#[derive(Clone, Copy)]
 enum Next {
     To(u8),
     WrongStage,

@@ -1,5 +1,6 @@
 // The call record: its bytes decoded into a caller and one of twenty-three calls, a call's arguments, and bytes encoded.
 #![tactic(auto)]
+
 ghost use Rattle.std.specs.Prelude.{◌≡◌, [], ◌∷◌, ◌≤◌, take};
 ghost use Rattle.mtas.specs.Record.{kind_at, fill, record_of};
 ghost use Rattle.record.specs.Decoded.{call_of, request_of, Decodes, Formed};
@@ -10,7 +11,7 @@ ghost use Rattle.record.specs.Encoded.{Holds};
 pub const HEADER: usize = 5;
 
 // The calls, a case for each kind, with the arguments as they stand in the record.
-#[derive(Drop)]
+#[derive(Clone, Copy)]
 pub enum Call {
     AddIssuer(u8),
     RemoveIssuer(u8),
@@ -38,7 +39,7 @@ pub enum Call {
 }
 
 // A caller and its call, a record of refusal 3's row, or a record of no bytes, a press's sign of life.
-#[derive(Drop)]
+#[derive(Clone, Copy)]
 pub enum Decoded {
     Request(u8, Call),
     Undecodable,
@@ -46,7 +47,7 @@ pub enum Decoded {
 }
 
 // How many arguments a kind has, and its call with them.
-#[derive(Drop)]
+#[derive(Clone, Copy)]
 enum Kind {
     Unknown,
     Known(usize, Call),
@@ -122,7 +123,7 @@ pub fn decode(record: &[u8]) -> Decoded
 }
 
 // A call's arguments in the record's order, 0 where it has fewer.
-#[derive(Drop)]
+#[derive(Clone, Copy)]
 pub struct Slots {
     pub x: u8,
     pub y: u8,
@@ -160,7 +161,7 @@ pub fn arguments(call: Call) -> Slots
 }
 
 // An encoded record: its first len bytes.
-#[derive(Drop)]
+#[derive(Clone, Copy)]
 pub struct Encoded {
     pub bytes: [u8; 8],
     pub len: usize,

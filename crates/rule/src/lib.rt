@@ -1,5 +1,6 @@
 // The table of the calls as data (document 01, 'When a call is turned down'): the causes of refusal in order, and the effect.
 #![tactic(auto)]
+
 ghost use Rattle.std.specs.Prelude.{[], ◌∷◌};
 ghost use Rattle.mtas.specs.Layout.{view};
 ghost use Rattle.mtas.specs.LawTest.{LawfulWords};
@@ -23,7 +24,7 @@ pub enum Guard {
 }
 
 // An effect: an issuer is enrolled, a fact is put or cut with all that needs it, or a question is decided.
-#[derive(Drop)]
+#[derive(Clone, Copy)]
 pub enum Effect {
     Enrols(u8),
     Puts(Fact),
@@ -188,7 +189,7 @@ pub fn guards(state: &[u16], c: u8, call: Call) -> [Guard; 7]
 }
 
 // Whose call it is.
-#[derive(Drop)]
+#[derive(Clone, Copy)]
 pub enum Whose {
     Operator,
     Issuer,

@@ -57,13 +57,13 @@ pub fn lesser(state: &[u16], i: usize, s: usize) -> u16
 }
 
 // Roles of one issuer, a word for each of its sessions.
-#[derive(Drop)]
+#[derive(Clone, Copy)]
 struct BySession {
     words: [u16; 16],
 }
 
 // The same, and the bits of all.
-#[derive(Drop)]
+#[derive(Clone, Copy)]
 struct Scan {
     left: BySession,
     all: u16,

@@ -39,7 +39,7 @@ fn text_length(left: &[u8]) -> usize
 }
 
 // Where a field's text lies, and the place behind the field. One whose text isn't TEXTDATA alone, or that no quote closes, has an empty text here: neither is a word or a number.
-#[derive(Drop)]
+#[derive(Clone, Copy)]
 pub struct Field {
     pub from: usize,
     pub to: usize,

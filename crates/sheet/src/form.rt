@@ -22,7 +22,7 @@ fn same(text: &[u8], word: &[u8]) -> bool
 }
 
 // The kind of a word's call and the number of its arguments, 0 and 0 for another text.
-#[derive(Drop)]
+#[derive(Clone, Copy)]
 pub struct Named {
     pub kind: u16,
     pub count: usize,

@@ -13,7 +13,7 @@ mod form;
 mod reading;
 
 // How many bytes a sheet's records have, or the line of the first row that isn't of the form.
-#[derive(Drop)]
+#[derive(Clone, Copy)]
 enum Size {
     Bytes(usize),
     Wrong(usize),
@@ -57,7 +57,7 @@ fn write(csv: &[u8], caller: u8, out: &mut [u8])
 }
 
 // What was converted: error 0 and the bytes written, error 15 and the line of the first row that isn't of the form, or error 16.
-#[derive(Drop)]
+#[derive(Clone, Copy)]
 pub struct Answer {
     pub error: u16,
     pub line: usize,
@@ -101,7 +101,7 @@ pub fn convert(csv: &[u8], caller: u8, out: &mut [u8]) -> Answer
 }
 
 // A caller's number, with 16 for every one above 15.
-#[derive(Drop)]
+#[derive(Clone, Copy)]
 pub enum Caller {
     Number(u8),
     Other,

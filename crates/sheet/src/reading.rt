@@ -10,7 +10,7 @@ const CR: u8 = 13;
 const LF: u8 = 10;
 
 // A number, and the place behind it.
-#[derive(Drop)]
+#[derive(Clone, Copy)]
 enum Argument {
     Number(u8, usize),
     Other,
@@ -35,7 +35,7 @@ fn read_argument(left: &[u8]) -> Argument
 }
 
 // Numbers, and the place behind them.
-#[derive(Drop)]
+#[derive(Clone, Copy)]
 enum Arguments {
     Numbers(Slots, usize),
     Other,
@@ -68,7 +68,7 @@ fn read_arguments(left: &[u8], count: usize) -> Arguments
 }
 
 // The place behind a row's end.
-#[derive(Drop)]
+#[derive(Clone, Copy)]
 enum End {
     Place(usize),
     Other,
@@ -90,7 +90,7 @@ fn read_end(left: &[u8]) -> End
 }
 
 // A row's call: its kind, the number of its arguments, and these.
-#[derive(Drop)]
+#[derive(Clone, Copy)]
 pub struct Call {
     pub kind: u16,
     pub count: usize,
@@ -98,7 +98,7 @@ pub struct Call {
 }
 
 // A call, and the place behind its row.
-#[derive(Drop)]
+#[derive(Clone, Copy)]
 pub enum Row {
     Of(Call, usize),
     Other,

@@ -1,0 +1,8 @@
+-- `hierarchy::above_one` meets its contract: the walk upwards from the set of the one role.
+use borrow.Author.Rules.{rules}
+use Rattle.hierarchy.proofs.Links.{linked_numbered}
+use Rattle.hierarchy.proofs.One.{one_reached}
+use Rattle.hierarchy.proofs.above_one.Goals as goal
+
+pub returns : goal.returns
+returns c = search (rules, one_reached, linked_numbered)

@@ -1,0 +1,37 @@
+use borrow.Author.Rules.{rules}
+use mathlib.Core.Path.{◌≡◌, refl, subst}
+use mathlib.Core.Bool.{true}
+use mathlib.Core.Logic.{⊎_elim}
+use Prim.Native.Nat.{◌+◌, ◌-◌, ◌*◌, ◌≤◌}
+use native.Mathlib.Omega.{arith}
+use Rattle.bits.proofs.Booleans.{clash}
+use Rattle.mtas.specs.Hierarchy.{Role, ◌#◌}
+use Rattle.hierarchy.specs.Links.{linked}
+use Rattle.hierarchy.specs.Freed.{TopsOf}
+use Rattle.hierarchy.proofs.Links.{role-at}
+use Rattle.hierarchy.proofs.Rows.{Wide, all_due}
+use Rattle.hierarchy.proofs.Freed.{tops_none, tops_more}
+use Rattle.hierarchy.proofs.circles.tops_of.Goals as goal
+
+pub loop-q-init : goal.loop-q-init
+loop-q-init c = (omega arith, tops_none)
+
+pub loop-q-preserved : goal.loop-q-preserved
+loop-q-preserved c =
+    let links = c.args.links.now in
+    let j = c.args.j in
+    let l = c.loop-q in
+    let wide : Wide links = record { each = c.type_inv.links } in
+    let none : Wide c.empty.result.words = search rules in
+    let k = 16 * j + l.q in (
+      omega arith,
+      ⊎_elim
+          (λ (zero, added, e).
+          let due = (all_due {k = k} (omega arith) wide none c.gather_row.ensures).0 zero.taken in
+          let bare = subst (λ b. (a : Role) → linked links a b ≡ true → ⊥) (role-at k (j # l.q) refl (omega arith)) (λ a h. clash (due a h) (c.empty.ensures a.issuer a.number)) in
+          rw (e, added.ensures) (tops_more l.invariant.1 bare))
+          (λ (some, e). rw e l.invariant.1) c.if-gather_row-eq0.branch,
+    )
+
+pub returns : goal.returns
+returns c = c.loop-q.invariant.1

@@ -1,0 +1,76 @@
+use borrow.Author.Rules.{rules}
+use mathlib.Core.Path.{◌≡◌, sym, ◌∙◌}
+use mathlib.Core.Logic.{⊎_elim}
+use mathlib.Core.Bool.{not, ◌&&◌}
+use Prim.Native.Nat.{◌-◌, ◌≤◌, ◌<◌}
+use native.Mathlib.Omega.{arith}
+use lib.ListN.{length, length-set}
+use Rattle.bits.specs.Below.{tally}
+use Rattle.bits.specs.Bit.{bit}
+use Rattle.bits.specs.RoleSet.{in_set}
+use Rattle.hierarchy.specs.Climbing.{Climbing}
+use Rattle.hierarchy.specs.Links.{linked}
+use Rattle.hierarchy.proofs.Climbing.{LiftedBut, lifted_none, lifted_more, lifted_all, fewer_left, RoundTo, word_inside, round_none, round_more, round_idle, round_all, climb_ends, climb_less}
+use Rattle.hierarchy.proofs.Links.{linked_numbered}
+use Rattle.hierarchy.proofs.Rows.{Wide, none-outside}
+use Rattle.hierarchy.proofs.Sizes.{size}
+use Rattle.hierarchy.proofs.finish.Goals as goal
+
+pub loop-done-init : goal.loop-done-init
+loop-done-init c = (search rules, search rules, search rules, search rules)
+
+pub loop-i-init : goal.loop-i-init
+loop-i-init c = let l = c.loop in (omega arith, l.invariant.0, l.invariant.2, round_none l.invariant.1)
+
+pub loop-done-smaller : goal.loop-done-smaller
+loop-done-smaller c =
+    let l = c.loop in
+    let m = c.loop-i in
+    let end : m.i ≡ 16 = omega arith in
+    climb_less (round_all (rw end at m.invariant.3)) (λ w. c.loop-done-test.true (c.gather_row.ensures ∙ (none-outside l.invariant.0 l.invariant.1).1 w))
+
+pub loop-done-preserved : goal.loop-done-preserved
+loop-done-preserved c =
+    let l = c.loop in
+    let m = c.loop-i in
+    let end : m.i ≡ 16 = omega arith in
+    (m.invariant.1, m.invariant.3.wide, m.invariant.2, (round_all (rw end at m.invariant.3)).goes_on _ l.invariant.3)
+
+pub loop-rest-init : goal.loop-rest-init
+loop-rest-init c =
+    let m = c.loop-i in
+    (m.invariant.1, lifted_none (word_inside (linked_numbered _) m.i (omega arith) m.seen.words m.done.words m.invariant.3))
+
+pub loop-rest-smaller : goal.loop-rest-smaller
+loop-rest-smaller c =
+    let m = c.loop-i in
+    let l = c.loop-rest in
+    let low = c.lowest_bit-r in
+    let li : m.i < 16 = omega arith in
+    rw c.without_bit.ensures (fewer_left _ m.i low.result l.rest l.seen.words _ _ li low.ensures.place low.ensures.is_set (l.invariant.0.each m.i).fits c.row-row.ensures c.union-seen.ensures l.invariant.1.inside)
+
+pub loop-rest-preserved : goal.loop-rest-preserved
+loop-rest-preserved c =
+    let m = c.loop-i in
+    let l = c.loop-rest in
+    let low = c.lowest_bit-r in
+    let li : m.i < 16 = omega arith in
+    (search rules, rw c.without_bit.ensures (lifted_more _ m.i low.result l.rest l.seen.words _ _ li low.ensures.place low.ensures.is_set (l.invariant.0.each m.i).fits c.row-row.ensures c.union-seen.ensures l.invariant.1))
+
+pub loop-i-preserved : goal.loop-i-preserved
+loop-i-preserved c =
+    let m = c.loop-i in
+    let li : m.i < 16 = omega arith in (
+      omega arith,
+      ⊎_elim (λ (h, loop3, end, lifted, es, ed). rw es loop3.inv.0) (λ (h, es, ed). rw es m.invariant.1) c.if-rest-ne0.branch,
+      ⊎_elim (λ (h, loop3, end, lifted, es, ed). rw ed (simp length-set m.invariant.2)) (λ (h, es, ed). rw ed m.invariant.2) c.if-rest-ne0.branch,
+      ⊎_elim
+          (λ (h, loop3, end, lifted, es, ed).
+          rw (es, ed) (round_more (linked_numbered _) m.i li m.seen.words m.done.words m.invariant.3 (lifted_all (search rules) loop3.inv.1) (omega arith) (loop3.inv.0.each m.i).fits))
+          (λ (h, es, ed). rw (es, ed) (round_idle (linked_numbered _) m.i li m.seen.words m.done.words m.invariant.3 h.left)) c.if-rest-ne0.branch,
+    )
+
+pub returns : goal.returns
+returns c =
+    let l = c.loop in
+    climb_ends (linked_numbered _) l.invariant.3 ((none-outside l.invariant.0 l.invariant.1).0 (sym c.gather_row.ensures ∙ c.loop-done-test.false))

@@ -1,8 +1,0 @@
--- `lines::put_byte` meets its contract.
-use borrow.Author.Rules.{rules}
-use Rattle.lines.proofs.Writing.{one_more}
-use Rattle.lines.proofs.put_byte.Statement.{statement}
-use Rattle.lines.proofs.put_byte.Tie as tie
-
-pub put-byte-spec : {M : Type 1} → statement M
-put-byte-spec = tie.close (tie.spec (λ c. search rules) (λ c. search rules) (λ c. record { text = search (rules, one_more); len = search rules }))
