@@ -1,5 +1,6 @@
 // What a call is answered on a lawful state: its refusal (document 01, 'When a call is turned down') and what it looks up.
 #![tactic(auto)]
+
 ghost use Rattle.mtas.specs.Layout.{view};
 ghost use Rattle.mtas.specs.LawTest.{LawfulWords};
 ghost use Rattle.record.specs.Decoded.{call_of};

@@ -1,5 +1,6 @@
 // What an accepted call does to the lent words: facts are put, or one is cut with all that needs it, and what is left is settled.
 #![tactic(auto)]
+
 ghost use Rattle.std.specs.Prelude.{◌≡◌, true, ◌<◌, length, get_or, set};
 ghost use Rattle.bits.specs.Bit.{with_bit};
 ghost use Rattle.mtas.specs.Layout.{state_length};

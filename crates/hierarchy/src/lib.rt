@@ -1,6 +1,7 @@
 // The role hierarchy: the roles that reach one of a set, and whether no role reaches itself by one or more attachments.
 // A role's row of the attachment words is the set of its direct seniors, so both walk upwards, a row at a time.
 #![tactic(auto)]
+
 ghost use Rattle.std.specs.Prelude.{◌≡◌, ◌<◌, length};
 ghost use Rattle.mtas.specs.Layout.{links_length};
 ghost use Rattle.hierarchy.specs.Links.{linked, Reaching, ReachingOne};

@@ -1,6 +1,7 @@
 // The law test on the words of a state (document 01, 'Lawful means').
 // A stray bit is one that lacks what it needs. The stray bits of all words are gathered into one word, which is 0 where the law holds.
 #![tactic(auto)]
+
 ghost use Rattle.std.specs.Prelude.{◌≡◌, ◌↔◌, true, ◌+◌, ◌*◌, ◌<◌, ◌≤◌, length, get_or};
 ghost use Rattle.bits.specs.Gather.{gather};
 ghost use Rattle.mtas.specs.Layout.{state_length};

@@ -1,13 +1,9 @@
 -- A record played on the lent words: each way out of `call` is what the definition says.
 use mathlib.Core.Path.{◌≡◌, refl, ap, sym, ◌∙◌}
-use mathlib.Core.Logic.{⊎_elim}
 use mathlib.Core.Bool.{Bool, true, false, not}
 use mathlib.Core.Option.{Option}
-use mathlib.Core.List.{List, [], ◌∷◌}
+use mathlib.Core.List.{List}
 use Prim.Native.Nat.{ℕ}
-use native.Mathlib.Omega.{arith}
-use types.Run.{OneOf}
-use denote.Enum.Declared.{tag_of}
 use lib.ListN.{length}
 use borrow.Author.Tests.{eq-eqb, ne_eqb, not-true, not-false}
 use Rattle.mtas.specs.Call as model
@@ -27,7 +23,6 @@ use Rattle.record.specs.Decoded.{call_of, request_of, refusal_of, Decodes}
 use Rattle.record.specs.declared.Call.{Call}
 use Rattle.record.specs.declared.Decoded.{Decoded}
 use Rattle.record.specs.declared.Decoded.TheVariants.{Request as Requested, Undecodable, SignOfLife}
-use Rattle.record.specs.contracts.Decoded.{the_type}
 use Rattle.hierarchy.specs.Lowest.{found_of}
 use Rattle.hierarchy.specs.declared.lowest.Found.{Found}
 use Rattle.answers.specs.Refusal.{Refusal, LookedUp}
@@ -60,11 +55,11 @@ accepted-answer st c k e = rw e
 pub accepted_with : {f g : Found} {x : Answer} → f ≡ g → x ≡ accepts (found_of g) → x ≡ accepts (found_of f)
 accepted_with e q = q ∙ ap (λ f. accepts (found_of f)) (sym e)
 
--- the tags of a call, of what can't be decoded and of a sign of life are 0, 1 and 2
-neither : (d : Decoded) → OneOf (0 ∷ 1 ∷ []) (tag_of the_type d) → OneOf (1 ∷ 2 ∷ []) (tag_of the_type d) → d ≡ Undecodable
-neither (Requested c k) h g = absurd (⊎_elim (λ e. omega arith) (λ e. omega arith) g)
-neither Undecodable h g = refl
-neither SignOfLife h g = absurd (⊎_elim (λ e. omega arith) (λ e. omega arith) h)
+-- what is neither a call nor a sign of life
+neither : (d : Decoded) → ((c : ℕ) (k : Call) → d ≡ Requested c k → ⊥) → (d ≡ SignOfLife → ⊥) → d ≡ Undecodable
+neither (Requested c k) n m = absurd (n c k refl)
+neither Undecodable n m = refl
+neither SignOfLife n m = absurd (m refl)
 
 -- d is the record decoded
 module _ {ws : List ℕ} (b : List ℕ) (W : LawfulWords ws) {d : Decoded} (e : Decodes b d) where
@@ -80,7 +75,7 @@ module _ {ws : List ℕ} (b : List ℕ) (W : LawfulWords ws) {d : Decoded} (e : 
   pub signed : {x : Answer} → d ≡ SignOfLife → x ≡ refuses (refusal_of SignOfLife) → Gives (monitor ws b) x ws
   signed h q = rw (monitor-idle ws b W sign_of_life (read_as h) refl) (record { same_answer = q; same_words = refl })
 
-  pub undecoded : {x : Answer} → OneOf (0 ∷ 1 ∷ []) (tag_of the_type d) → OneOf (1 ∷ 2 ∷ []) (tag_of the_type d) → x ≡ refuses (refusal_of Undecodable) → Gives (monitor ws b) x ws
+  pub undecoded : {x : Answer} → ((c : ℕ) (k : Call) → d ≡ Requested c k → ⊥) → (d ≡ SignOfLife → ⊥) → x ≡ refuses (refusal_of Undecodable) → Gives (monitor ws b) x ws
   undecoded h g q = rw (monitor-idle ws b W undecodable (read_as (neither d h g)) refl) (record { same_answer = q; same_words = refl })
 
   module _ {c r : ℕ} {k : Call} (h : d ≡ Requested c k) (t : Refusal ws c (call_of k) r) where

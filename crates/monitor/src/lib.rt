@@ -1,5 +1,6 @@
 // The reference monitor (document 01's desk): starting, and a call record played on the lent state.
 #![tactic(auto)]
+
 ghost use Rattle.std.specs.Prelude.{◌≡◌, ◌<◌};
 ghost use Rattle.mtas.specs.Layout.{state_length, cell, word_at};
 ghost use Rattle.mtas.specs.Monitor.{initial, start, monitor};

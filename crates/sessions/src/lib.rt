@@ -1,5 +1,6 @@
 // The active roles of sessions: those that no role held by the session's user reaches (document 02, Card 2), and settling, which drops them.
 #![tactic(auto)]
+
 ghost use Rattle.std.specs.Prelude.{◌≡◌, ◌↔◌, true, cond, ◌<◌, length};
 ghost use Rattle.bits.specs.Bit.{without_bit};
 ghost use Rattle.bits.specs.Gather.{gather};

@@ -1,37 +1,30 @@
 use borrow.Author.Rules.{rules}
 use mathlib.Core.Path.{◌≡◌, sym, ◌∙◌}
-use mathlib.Core.Logic.{⊎_elim}
-use mathlib.Core.Bool.{not, ◌&&◌}
-use Prim.Native.Nat.{◌-◌, ◌≤◌, ◌<◌}
+use Prim.Native.Nat.{◌<◌}
 use native.Mathlib.Omega.{arith}
-use lib.ListN.{length, length-set}
-use Rattle.bits.specs.Below.{tally}
-use Rattle.bits.specs.Bit.{bit}
-use Rattle.bits.specs.RoleSet.{in_set}
-use Rattle.hierarchy.specs.Climbing.{Climbing}
-use Rattle.hierarchy.specs.Links.{linked}
-use Rattle.hierarchy.proofs.Climbing.{LiftedBut, lifted_none, lifted_more, lifted_all, fewer_left, RoundTo, word_inside, round_none, round_more, round_idle, round_all, climb_ends, climb_less}
+use lib.ListN.{length-set}
+use Rattle.hierarchy.proofs.Climbing.{lifted_none, lifted_more, lifted_all, fewer_left, word_inside, round_none, round_more, round_idle, round_all, climb_ends, climb_less}
 use Rattle.hierarchy.proofs.Links.{linked_numbered}
-use Rattle.hierarchy.proofs.Rows.{Wide, none-outside}
-use Rattle.hierarchy.proofs.Sizes.{size}
+use Rattle.hierarchy.proofs.Rows.{none-outside}
 use Rattle.hierarchy.proofs.finish.Goals as goal
+use Rattle.hierarchy.proofs.finish.Goals.{then-rest-ne0+else-loop-rest-test, else-rest-ne0}
 
 pub loop-done-init : goal.loop-done-init
 loop-done-init c = (search rules, search rules, search rules, search rules)
 
 pub loop-i-init : goal.loop-i-init
-loop-i-init c = let l = c.loop in (omega arith, l.invariant.0, l.invariant.2, round_none l.invariant.1)
+loop-i-init c = let l = c.loop-done in (omega arith, l.invariant.0, l.invariant.2, round_none l.invariant.1)
 
 pub loop-done-smaller : goal.loop-done-smaller
 loop-done-smaller c =
-    let l = c.loop in
+    let l = c.loop-done in
     let m = c.loop-i in
     let end : m.i ≡ 16 = omega arith in
     climb_less (round_all (rw end at m.invariant.3)) (λ w. c.loop-done-test.true (c.gather_row.ensures ∙ (none-outside l.invariant.0 l.invariant.1).1 w))
 
 pub loop-done-preserved : goal.loop-done-preserved
 loop-done-preserved c =
-    let l = c.loop in
+    let l = c.loop-done in
     let m = c.loop-i in
     let end : m.i ≡ 16 = omega arith in
     (m.invariant.1, m.invariant.3.wide, m.invariant.2, (round_all (rw end at m.invariant.3)).goes_on _ l.invariant.3)
@@ -62,15 +55,20 @@ loop-i-preserved c =
     let m = c.loop-i in
     let li : m.i < 16 = omega arith in (
       omega arith,
-      ⊎_elim (λ (h, loop3, end, lifted, es, ed). rw es loop3.inv.0) (λ (h, es, ed). rw es m.invariant.1) c.if-rest-ne0.branch,
-      ⊎_elim (λ (h, loop3, end, lifted, es, ed). rw ed (simp length-set m.invariant.2)) (λ (h, es, ed). rw ed m.invariant.2) c.if-rest-ne0.branch,
-      ⊎_elim
-          (λ (h, loop3, end, lifted, es, ed).
-          rw (es, ed) (round_more (linked_numbered _) m.i li m.seen.words m.done.words m.invariant.3 (lifted_all (search rules) loop3.inv.1) (omega arith) (loop3.inv.0.each m.i).fits))
-          (λ (h, es, ed). rw (es, ed) (round_idle (linked_numbered _) m.i li m.seen.words m.done.words m.invariant.3 h.left)) c.if-rest-ne0.branch,
+      elim c.if-rest-ne0.branch [ then-rest-ne0+else-loop-rest-test w ↦ rw w.seen-is w.loop-rest.invariant.0 | else-rest-ne0 w ↦ rw w.seen-is m.invariant.1 ],
+      elim c.if-rest-ne0.branch [
+        | then-rest-ne0+else-loop-rest-test w ↦ rw w.done-is (simp length-set m.invariant.2)
+        | else-rest-ne0 w ↦ rw w.done-is m.invariant.2
+      ],
+      elim c.if-rest-ne0.branch [
+        | then-rest-ne0+else-loop-rest-test w ↦
+            rw (w.seen-is, w.done-is)
+            (round_more (linked_numbered _) m.i li m.seen.words m.done.words m.invariant.3 (lifted_all (search rules) w.loop-rest.invariant.1) (omega arith) (w.loop-rest.invariant.0.each m.i).fits)
+        | else-rest-ne0 w ↦ rw (w.seen-is, w.done-is) (round_idle (linked_numbered _) m.i li m.seen.words m.done.words m.invariant.3 w.if-rest-ne0.false)
+      ],
     )
 
 pub returns : goal.returns
 returns c =
-    let l = c.loop in
+    let l = c.loop-done in
     climb_ends (linked_numbered _) l.invariant.3 ((none-outside l.invariant.0 l.invariant.1).0 (sym c.gather_row.ensures ∙ c.loop-done-test.false))

@@ -1,20 +1,16 @@
 -- The invariants: a walk from the set is on its way; its round has come to the issuer i; of this issuer all are lifted but the roles of the rest.
 -- The measures: the roles that are not done; the issuers left; the roles of the issuer that are not lifted.
-use borrow.Author.Rules.{rules}
-use mathlib.Core.Path.{◌≡◌, sym, ◌∙◌}
-use mathlib.Core.Logic.{⊎_elim}
+use mathlib.Core.Path.{◌≡◌}
 use mathlib.Core.Bool.{not, ◌&&◌}
-use Prim.Native.Nat.{◌-◌, ◌≤◌, ◌<◌}
-use native.Mathlib.Omega.{arith}
-use lib.ListN.{length, length-set}
+use Prim.Native.Nat.{◌-◌, ◌≤◌}
+use lib.ListN.{length}
 use Rattle.bits.specs.Below.{tally}
 use Rattle.bits.specs.Bit.{bit}
 use Rattle.bits.specs.RoleSet.{in_set}
 use Rattle.hierarchy.specs.Climbing.{Climbing}
 use Rattle.hierarchy.specs.Links.{linked}
-use Rattle.hierarchy.proofs.Climbing.{LiftedBut, lifted_none, lifted_more, lifted_all, fewer_left, RoundTo, word_inside, round_none, round_more, round_idle, round_all, climb_ends, climb_less}
-use Rattle.hierarchy.proofs.Links.{linked_numbered}
-use Rattle.hierarchy.proofs.Rows.{Wide, none-outside}
+use Rattle.hierarchy.proofs.Climbing.{LiftedBut, RoundTo}
+use Rattle.hierarchy.proofs.Rows.{Wide}
 use Rattle.hierarchy.proofs.Sizes.{size}
 use Rattle.hierarchy.proofs.finish.Given as goal
 

@@ -1,5 +1,4 @@
 -- `hierarchy::circles::acyclic` meets its contract: where all roles are freed there is no circle, and where there is none all are in the end.
-use borrow.Author.Rules.{rules}
 use mathlib.Core.Path.{refl}
 use Rattle.hierarchy.proofs.Acyclicity.{free_full, filled_full}
 use Rattle.hierarchy.proofs.Links.{linked_numbered}

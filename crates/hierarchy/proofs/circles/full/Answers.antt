@@ -4,4 +4,4 @@ use Rattle.hierarchy.proofs.Rows.{Wide}
 use Rattle.hierarchy.proofs.circles.full.Goals as goal
 
 pub returns : goal.returns
-returns c = let wide : Wide c.before.before.before.before.args.set.words = search rules in tells_full wide c.gather_row.ensures
+returns c = let wide : Wide c.args.set.words = search rules in tells_full wide c.gather_row.ensures

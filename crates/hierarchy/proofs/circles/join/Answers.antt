@@ -1,11 +1,7 @@
 use borrow.Author.Rules.{rules}
 use mathlib.Core.Path.{◌≡◌, refl}
-use Prim.Native.Nat.{◌+◌, ◌-◌, ◌/◌, ◌≤◌}
 use native.Mathlib.Omega.{arith}
-use lib.Bits.{bit_and, bit_or}
-use lib.ListN.{length, get_or, length-set}
-use Rattle.bits.specs.Stride.{in_run}
-use Rattle.bits.specs.Update.{Updated}
+use lib.ListN.{length-set}
 use Rattle.bits.proofs.Stride.{run_none, run_more}
 use Rattle.hierarchy.proofs.Slide.{through_slide}
 use Rattle.hierarchy.proofs.circles.join.Goals as goal

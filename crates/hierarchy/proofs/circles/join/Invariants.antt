@@ -1,14 +1,10 @@
 -- The invariant: the first i words have the role, if it is one of theirs.
-use borrow.Author.Rules.{rules}
-use mathlib.Core.Path.{◌≡◌, refl}
+use mathlib.Core.Path.{◌≡◌}
 use Prim.Native.Nat.{◌+◌, ◌-◌, ◌/◌, ◌≤◌}
-use native.Mathlib.Omega.{arith}
 use lib.Bits.{bit_and, bit_or}
-use lib.ListN.{length, get_or, length-set}
+use lib.ListN.{length, get_or}
 use Rattle.bits.specs.Stride.{in_run}
 use Rattle.bits.specs.Update.{Updated}
-use Rattle.bits.proofs.Stride.{run_none, run_more}
-use Rattle.hierarchy.proofs.Slide.{through_slide}
 use Rattle.hierarchy.proofs.circles.join.Given as goal
 
 abbrev pub invariant-loop-i : goal.invariant-loop-i

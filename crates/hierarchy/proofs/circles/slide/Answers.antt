@@ -1,4 +1,3 @@
-use borrow.Author.Rules.{rules}
 use Rattle.hierarchy.proofs.Slide.{the_slide}
 use Rattle.hierarchy.proofs.circles.slide.Goals as goal
 

@@ -1,10 +1,7 @@
-use borrow.Author.Rules.{rules}
 use mathlib.Core.Path.{◌≡◌}
-use Prim.Native.Nat.{◌-◌, ◌≤◌}
 use native.Mathlib.Omega.{arith}
-use Rattle.hierarchy.specs.Links.{linked}
 use Rattle.hierarchy.proofs.Links.{linked_numbered}
-use Rattle.hierarchy.proofs.Freed.{VisitedTo, visited_none, visited_more, visited_all}
+use Rattle.hierarchy.proofs.Freed.{visited_none, visited_more, visited_all}
 use Rattle.hierarchy.proofs.circles.sweep.Goals as goal
 
 pub loop-k-init : goal.loop-k-init

@@ -1,10 +1,7 @@
 use borrow.Author.Rules.{rules}
 use mathlib.Core.Path.{◌≡◌}
-use Prim.Native.Nat.{ℕ, ◌-◌, ◌≤◌, ◌<◌}
 use native.Mathlib.Omega.{arith}
-use lib.ListN.{length, get_or, length-set}
-use Rattle.hierarchy.specs.Links.{linked}
-use Rattle.hierarchy.specs.Freed.{TopsOf}
+use lib.ListN.{length-set}
 use Rattle.hierarchy.proofs.Freed.{tops_set, tops_free}
 use Rattle.hierarchy.proofs.circles.tops.Goals as goal
 

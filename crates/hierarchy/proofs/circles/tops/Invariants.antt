@@ -1,12 +1,9 @@
 -- The invariant: no role of the first j words has a senior.
-use borrow.Author.Rules.{rules}
 use mathlib.Core.Path.{◌≡◌}
-use Prim.Native.Nat.{ℕ, ◌-◌, ◌≤◌, ◌<◌}
-use native.Mathlib.Omega.{arith}
-use lib.ListN.{length, get_or, length-set}
+use Prim.Native.Nat.{ℕ, ◌≤◌, ◌<◌}
+use lib.ListN.{length, get_or}
 use Rattle.hierarchy.specs.Links.{linked}
 use Rattle.hierarchy.specs.Freed.{TopsOf}
-use Rattle.hierarchy.proofs.Freed.{tops_set, tops_free}
 use Rattle.hierarchy.proofs.circles.tops.Given as goal
 
 abbrev pub invariant-loop-j : goal.invariant-loop-j

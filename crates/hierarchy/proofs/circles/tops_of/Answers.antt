@@ -1,17 +1,16 @@
 use borrow.Author.Rules.{rules}
 use mathlib.Core.Path.{◌≡◌, refl, subst}
 use mathlib.Core.Bool.{true}
-use mathlib.Core.Logic.{⊎_elim}
-use Prim.Native.Nat.{◌+◌, ◌-◌, ◌*◌, ◌≤◌}
+use Prim.Native.Nat.{◌+◌, ◌*◌}
 use native.Mathlib.Omega.{arith}
 use Rattle.bits.proofs.Booleans.{clash}
 use Rattle.mtas.specs.Hierarchy.{Role, ◌#◌}
 use Rattle.hierarchy.specs.Links.{linked}
-use Rattle.hierarchy.specs.Freed.{TopsOf}
 use Rattle.hierarchy.proofs.Links.{role-at}
 use Rattle.hierarchy.proofs.Rows.{Wide, all_due}
 use Rattle.hierarchy.proofs.Freed.{tops_none, tops_more}
 use Rattle.hierarchy.proofs.circles.tops_of.Goals as goal
+use Rattle.hierarchy.proofs.circles.tops_of.Goals.{then-gather_row-eq0, else-gather_row-eq0}
 
 pub loop-q-init : goal.loop-q-init
 loop-q-init c = (omega arith, tops_none)
@@ -25,12 +24,13 @@ loop-q-preserved c =
     let none : Wide c.empty.result.words = search rules in
     let k = 16 * j + l.q in (
       omega arith,
-      ⊎_elim
-          (λ (zero, added, e).
-          let due = (all_due {k = k} (omega arith) wide none c.gather_row.ensures).0 zero.taken in
-          let bare = subst (λ b. (a : Role) → linked links a b ≡ true → ⊥) (role-at k (j # l.q) refl (omega arith)) (λ a h. clash (due a h) (c.empty.ensures a.issuer a.number)) in
-          rw (e, added.ensures) (tops_more l.invariant.1 bare))
-          (λ (some, e). rw e l.invariant.1) c.if-gather_row-eq0.branch,
+      elim c.if-gather_row-eq0.branch [
+        | then-gather_row-eq0 w ↦
+            let due = (all_due {k = k} (omega arith) wide none c.gather_row.ensures).0 w.if-gather_row-eq0.true in
+            let bare = subst (λ b. (a : Role) → linked links a b ≡ true → ⊥) (role-at k (j # l.q) refl (omega arith)) (λ a h. clash (due a h) (c.empty.ensures a.issuer a.number)) in
+            rw (w.word-is, w.with_bit-word.ensures) (tops_more l.invariant.1 bare)
+        | else-gather_row-eq0 w ↦ rw w.word-is l.invariant.1
+      ],
     )
 
 pub returns : goal.returns

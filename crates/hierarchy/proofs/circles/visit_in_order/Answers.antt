@@ -1,15 +1,12 @@
 use borrow.Author.Rules.{rules}
 use mathlib.Core.Path.{sym, ◌∙◌}
-use Prim.Native.Nat.{◌-◌, ◌≤◌}
 use native.Mathlib.Omega.{arith}
 use lib.ListN.{get_or}
 use mir.Syntax.{w8}
 use mir.Val.{Fits}
 use Rattle.bits.proofs.Gather.{gather-zero}
-use Rattle.hierarchy.specs.Links.{linked}
-use Rattle.hierarchy.specs.Freed.{Freed}
 use Rattle.hierarchy.proofs.Links.{linked_numbered}
-use Rattle.hierarchy.proofs.Rows.{Wide, Nothing, none_lacking}
+use Rattle.hierarchy.proofs.Rows.{Wide, none_lacking}
 use Rattle.hierarchy.proofs.Freed.{freed_none, freed_then, visited_joins}
 use Rattle.hierarchy.proofs.circles.visit_in_order.Goals as goal
 
@@ -39,7 +36,7 @@ pub loop-t-preserved : goal.loop-t-preserved
 loop-t-preserved c =
     let a = c.args in
     let l = c.loop-t in
-    let byte : Fits w8 (get_or a.t3.roles l.t 0) = search rules in
+    let byte : Fits w8 (get_or a.order.roles l.t 0) = search rules in
     let links : Wide a.links.now = record { each = c.type_inv.links } in (
       omega arith,
       search rules,

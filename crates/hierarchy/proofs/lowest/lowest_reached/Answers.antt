@@ -1,15 +1,13 @@
 use borrow.Author.Rules.{rules}
 use mathlib.Core.Path.{◌≡◌, sym, ◌∙◌}
-use mathlib.Core.Logic.{⊎_elim}
-use Prim.Native.Nat.{◌+◌, ◌-◌, ◌*◌, ◌≤◌}
+use Prim.Native.Nat.{◌+◌, ◌*◌}
 use native.Mathlib.Omega.{arith}
 use lib.ListN.{get_or}
 use mir.Syntax.{w16}
 use mir.Val.{Fits}
-use Rattle.hierarchy.specs.Links.{linked}
-use Rattle.hierarchy.specs.declared.lowest.Found.TheVariants.{Nothing}
-use Rattle.hierarchy.proofs.Searching.{Searching, search_begins, search_skips, search_goes_on, search_finds, search_passes, search_ends}
+use Rattle.hierarchy.proofs.Searching.{search_begins, search_skips, search_goes_on, search_finds, search_passes, search_ends}
 use Rattle.hierarchy.proofs.lowest.lowest_reached.Goals as goal
+use Rattle.hierarchy.proofs.lowest.lowest_reached.Goals.{then-has_bit+else-own-word-ne0, else-has_bit, then-row-ne0+else-loop-q-test, else-row-ne0}
 
 pub issuers-init : goal.issuers-init
 issuers-init c = (omega arith, search rules, search_begins _ _ _ _ c.empty-seen.ensures)
@@ -30,21 +28,25 @@ loop-q-preserved c =
     let e : 16 * j + (l.q + 1) ≡ 16 * j + l.q + 1 = omega arith in (
       omega arith,
       l.invariant.1,
-      ⊎_elim
-          (λ (h, with, own, left, es).
-          let wide : Fits w16 (get_or with.result.words c.args.i 0) = search rules in
-          rw (e, es) (search_goes_on _ _ _ _ j l.q (omega arith) l.invariant.2 (omega arith) with.ensures wide.fits left.left))
-          (λ (h, es). rw (e, es) (search_skips _ _ _ _ j l.q (omega arith) l.invariant.2 (sym c.has_bit.ensures ∙ h.left))) c.if-has_bit.branch,
+      elim c.if-has_bit.branch [
+        | then-has_bit+else-own-word-ne0 w ↦
+            let wide : Fits w16 (get_or w.with_above-seen.result.words c.args.i 0) = search rules in
+            rw (e, w.seen-is) (search_goes_on _ _ _ _ j l.q (omega arith) l.invariant.2 (omega arith) w.with_above-seen.ensures wide.fits w.if-own-word-ne0.false)
+        | else-has_bit w ↦ rw (e, w.seen-is) (search_skips _ _ _ _ j l.q (omega arith) l.invariant.2 (sym c.has_bit.ensures ∙ w.if-has_bit.false))
+      ],
     )
 
 pub issuers-preserved : goal.issuers-preserved
 issuers-preserved c =
     let l = c.issuers in (
       omega arith,
-      ⊎_elim (λ (h, loop, end, es, ef). ef ∙ loop.inv.1) (λ (h, es, ef). ef ∙ l.invariant.1) c.if-row-ne0.branch,
-      ⊎_elim
-          (λ (h, loop, end, es, ef). let e : 16 * l.j + loop.q ≡ 16 * (l.j + 1) = omega arith in rw es (rw e at loop.inv.2))
-          (λ (h, es, ef). rw es (search_passes _ _ _ _ l.j h.left l.invariant.2)) c.if-row-ne0.branch,
+      elim c.if-row-ne0.branch [ then-row-ne0+else-loop-q-test w ↦ w.found-is ∙ w.loop-q.invariant.1 | else-row-ne0 w ↦ w.found-is ∙ l.invariant.1 ],
+      elim c.if-row-ne0.branch [
+        | then-row-ne0+else-loop-q-test w ↦
+            let e : 16 * l.j + w.loop-q.q ≡ 16 * (l.j + 1) = omega arith in
+            rw w.seen-is (rw e at w.loop-q.invariant.2)
+        | else-row-ne0 w ↦ rw w.seen-is (search_passes _ _ _ _ l.j w.if-row-ne0.false l.invariant.2)
+      ],
     )
 
 pub returns-after-issuers : goal.returns-after-issuers

@@ -1,15 +1,9 @@
 -- `hierarchy::lowest::lowest_reached` meets its contract. The invariants: the search has come to the role q of issuer j, and has found nothing.
-use borrow.Author.Rules.{rules}
-use mathlib.Core.Path.{◌≡◌, sym, ◌∙◌}
-use mathlib.Core.Logic.{⊎_elim}
+use mathlib.Core.Path.{◌≡◌}
 use Prim.Native.Nat.{◌+◌, ◌-◌, ◌*◌, ◌≤◌}
-use native.Mathlib.Omega.{arith}
-use lib.ListN.{get_or}
-use mir.Syntax.{w16}
-use mir.Val.{Fits}
 use Rattle.hierarchy.specs.Links.{linked}
 use Rattle.hierarchy.specs.declared.lowest.Found.TheVariants.{Nothing}
-use Rattle.hierarchy.proofs.Searching.{Searching, search_begins, search_skips, search_goes_on, search_finds, search_passes, search_ends}
+use Rattle.hierarchy.proofs.Searching.{Searching}
 use Rattle.hierarchy.proofs.lowest.lowest_reached.Given as goal
 
 abbrev pub invariant-loop-q : goal.invariant-loop-q
