@@ -1,7 +1,7 @@
 // Document 01's twelve press-house cases, played through start and call. A line for each case: its letter, the refusal, the verdict, and the issuer and number of the role that gave a yes.
 // After B the word of 1%5's holders among issuer 0's roles is written too: the grant is gone.
 #![tactic(auto)]
-use libc::STDOUT_FILENO;
+
 use monitor::Answer;
 
 // The state S, from starting on.
@@ -36,77 +36,68 @@ fn open_and_grant(state: &mut [u16]) {
     monitor::call(state, b"\x08\x00\x0d\x00\x01\x05\x00\x02");
 }
 
-fn wide(w: u16) -> u64 {
-    w as u64
-}
-
-fn show(letter: u8, a: Answer) {
-    let start = [letter, b' '];
-    io::write_all(STDOUT_FILENO, &start);
-    io::print_decimal(STDOUT_FILENO, a.refusal as u64);
-    io::write_all(STDOUT_FILENO, b" ");
-    io::print_decimal(STDOUT_FILENO, a.verdict as u64);
-    io::write_all(STDOUT_FILENO, b" ");
-    io::print_decimal(STDOUT_FILENO, a.issuer as u64);
-    io::write_all(STDOUT_FILENO, b" ");
-    io::print_decimal(STDOUT_FILENO, a.role as u64);
-    io::write_all(STDOUT_FILENO, b"\n");
+// A line that can't be written is left out.
+fn show(rt: &impl Print, letter: char, a: Answer) {
+    let _ = println!(rt;
+        "{letter} {} {} {} {}",
+        a.refusal, a.verdict, a.issuer, a.role
+    );
 }
 
 // A record tried on S.
-fn try_on_s(state: &mut [u16], letter: u8, record: &[u8]) {
+fn try_on_s(rt: &impl Print, state: &mut [u16], letter: char, record: &[u8]) {
     make_s(state);
-    show(letter, monitor::call(state, record));
+    show(rt, letter, monitor::call(state, record));
 }
 
 // A record tried on S after another.
-fn try_after(state: &mut [u16], letter: u8, first: &[u8], record: &[u8]) {
+fn try_after(rt: &impl Print, state: &mut [u16], letter: char, first: &[u8], record: &[u8]) {
     make_s(state);
     monitor::call(state, first);
-    show(letter, monitor::call(state, record));
+    show(rt, letter, monitor::call(state, record));
 }
 
-fn a_to_f(state: &mut [u16]) {
-    try_on_s(state, b'A', b"\x08\x00\x15\x00\x01\x05\x00\x04");
+fn a_to_f(rt: &impl Print, state: &mut [u16]) {
+    try_on_s(rt, state, 'A', b"\x08\x00\x15\x00\x01\x05\x00\x04");
     try_after(
+        rt,
         state,
-        b'B',
+        'B',
         b"\x06\x00\x04\x00\x00\x01",
         b"\x08\x00\x15\x00\x01\x05\x00\x04",
     );
-    show_holders(state);
+    show_holders(rt, state);
     try_after(
+        rt,
         state,
-        b'C',
+        'C',
         b"\x07\x00\x14\x00\x00\x04\x02",
         b"\x08\x00\x15\x00\x01\x05\x00\x04",
     );
-    try_on_s(state, b'D', b"\x08\x00\x15\x00\x01\x06\x00\x04");
-    try_on_s(state, b'E', b"\x08\x00\x15\x00\x01\x05\x00\x05");
-    try_on_s(state, b'F', b"\x08\x00\x0d\x00\x01\x05\x00\x07");
+    try_on_s(rt, state, 'D', b"\x08\x00\x15\x00\x01\x06\x00\x04");
+    try_on_s(rt, state, 'E', b"\x08\x00\x15\x00\x01\x05\x00\x05");
+    try_on_s(rt, state, 'F', b"\x08\x00\x0d\x00\x01\x05\x00\x07");
 }
 
-fn g_to_l(state: &mut [u16]) {
-    try_on_s(state, b'G', b"\x08\x00\x0d\x00\x00\x00\x01\x00");
-    try_on_s(state, b'H', b"\x08\x00\x0f\x00\x00\x02\x00\x02");
-    try_on_s(state, b'I', b"\x06\x00\x03\x00\x00\x00");
-    try_on_s(state, b'J', b"\x06\x00\x03\x00\x00\x10");
-    try_on_s(state, b'K', b"\x06\x00\x01\x00\x10\x00");
-    try_on_s(state, b'L', b"\x07\x00\x13\x00\x00\x04\x03");
+fn g_to_l(rt: &impl Print, state: &mut [u16]) {
+    try_on_s(rt, state, 'G', b"\x08\x00\x0d\x00\x00\x00\x01\x00");
+    try_on_s(rt, state, 'H', b"\x08\x00\x0f\x00\x00\x02\x00\x02");
+    try_on_s(rt, state, 'I', b"\x06\x00\x03\x00\x00\x00");
+    try_on_s(rt, state, 'J', b"\x06\x00\x03\x00\x00\x10");
+    try_on_s(rt, state, 'K', b"\x06\x00\x01\x00\x10\x00");
+    try_on_s(rt, state, 'L', b"\x07\x00\x13\x00\x00\x04\x03");
 }
 
 // The roles of issuer 0 that hold 1%5.
-fn show_holders(state: &[u16]) {
+fn show_holders(rt: &impl Print, state: &[u16]) {
     if 657 < state.len() {
-        io::write_all(STDOUT_FILENO, b"holders ");
-        io::print_decimal(STDOUT_FILENO, wide(state[657]));
-        io::write_all(STDOUT_FILENO, b"\n");
+        let _ = println!(rt; "holders {}", state[657]);
     }
 }
 
-fn main() {
+fn main(rt: HostRuntime) {
     let mut words = [0u16; layout::STATE_LENGTH];
     let state: &mut [u16] = &mut words;
-    a_to_f(state);
-    g_to_l(state);
+    a_to_f(&rt, state);
+    g_to_l(&rt, state);
 }
