@@ -18,7 +18,7 @@ use Rattle.record.specs.Encoded.{Holds}
 use Rattle.record.specs.declared.Encoded.{Encoded}
 use Rattle.press.specs.Stages as stage
 use Rattle.press.specs.Stages.{idle, loaded, held, empty, to, wrong_stage, next_in, next_stage}
-use Rattle.press.specs.Acted.{some_above, misfit, question, turned_away, result, act}
+use Rattle.press.specs.Acted.{some_above, misfit, question, turned_away, ends_in, act}
 use Rattle.press.specs.Errors.{Misfit, owner_above_15}
 use Rattle.press.specs.Laws.{Fits}
 use Rattle.press.specs.Contract.{next_of, to_where}
@@ -108,16 +108,16 @@ module _ (ws owners stages : List ℕ) (press action i s : ℕ) {m : Bool} (e : 
   abbrev owner : ℕ
   owner = get_or owners press 0
 
-  pub out_17 : m ≡ true → act ws owners stages press action i s ≡ result 17 stages ws
+  pub out_17 : m ≡ true → act ws owners stages press action i s ≡ ends_in 17 stages ws
   out_17 h = ends ws owners stages press action i s (sym e ∙ h) refl refl
 
   module _ (h : m ≡ false) {away : Bool} (d : away ≡ turned_away (answered ws owner action i s)) {vs : List ℕ} (z : vs ≡ ws) where
-    pub out_18 : away ≡ true → act ws owners stages press action i s ≡ result 18 stages vs
+    pub out_18 : away ≡ true → act ws owners stages press action i s ≡ ends_in 18 stages vs
     out_18 k = rw z (ends ws owners stages press action i s (sym e ∙ h) (sym d ∙ k) refl)
 
     module _ (k : away ≡ false) (r : Next) (n : next_of r ≡ next_stage action (get_or stages press 0)) where
-      pub out_19 : r ≡ WrongStage → act ws owners stages press action i s ≡ result 19 stages vs
+      pub out_19 : r ≡ WrongStage → act ws owners stages press action i s ≡ ends_in 19 stages vs
       out_19 q = rw z (ends ws owners stages press action i s (sym e ∙ h) (sym d ∙ k) (sym n ∙ ap next_of q))
 
-      pub out_0 : (t : ℕ) → r ≡ To t → act ws owners stages press action i s ≡ result 0 (set stages press t) vs
+      pub out_0 : (t : ℕ) → r ≡ To t → act ws owners stages press action i s ≡ ends_in 0 (set stages press t) vs
       out_0 t q = rw z (ends ws owners stages press action i s (sym e ∙ h) (sym d ∙ k) (sym n ∙ ap next_of q))

@@ -8,7 +8,7 @@ use native.Mathlib.Omega.{arith}
 use lib.ListN.{get_or, set}
 use Rattle.bits.proofs.Booleans.{clash}
 use Rattle.press.specs.Stages.{Next, to, wrong_stage, next_stage}
-use Rattle.press.specs.Acted.{Result, result, misfit, turned_away, moved, acted, act}
+use Rattle.press.specs.Acted.{Result, ends_in, misfit, turned_away, moved, acted, act}
 use Rattle.press.specs.Errors.{Leads, Misfit, TurnedAway, Given, misfits, is_turned_away, at_wrong_stage, goes_ahead, Errors}
 use Rattle.press.proofs.Table.{next-leads, nowhere}
 use Rattle.press.proofs.Misfits.{misfit_sound, in_order}
@@ -29,8 +29,8 @@ module _ (ws owners stages : List ℕ) (press action i s : ℕ) where
 
   -- what the three tests come to
   abbrev ending : Bool → Bool → Next → Result
-  ending true away next = result 17 stages ws
-  ending false true next = result 18 stages ws
+  ending true away next = ends_in 17 stages ws
+  ending false true next = ends_in 18 stages ws
   ending false false next = moved next press stages ws
 
   pub ends : {m away : Bool} {next : Next} → misfit owners stages press action ≡ m → turned_away (answered ws owner action i s) ≡ away
@@ -49,12 +49,12 @@ module _ (ws owners stages : List ℕ) (press action i s : ℕ) where
     pub its_welcome : Welcome
     pub next : ℕ
     pub leads : Leads action (get_or stages press 0) next
-    pub left : found ≡ result 0 (set stages press next) ws
+    pub left : found ≡ ends_in 0 (set stages press next) ws
 
   -- the ways to end: it went ahead, or an error is given and nothing changed
   pub data Ended : Type 0 where
     ahead : Went → Ended
-    stopped : (n : ℕ) → n ≢ 0 → Given ws owners stages press action i s n → found ≡ result n stages ws → Ended
+    stopped : (n : ℕ) → n ≢ 0 → Given ws owners stages press action i s n → found ≡ ends_in n stages ws → Ended
 
   pub ended : Ended
   ended = go (misfit owners stages press action) refl (turned_away (answered ws owner action i s)) refl (next_stage action (get_or stages press 0)) refl

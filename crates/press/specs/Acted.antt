@@ -39,22 +39,22 @@ pub record Result : Type 0 where
   pub stages : List ℕ
   pub words : List ℕ
 
-abbrev pub result : ℕ → List ℕ → List ℕ → Result
-result error stages words = record { error = error; stages = stages; words = words }
+abbrev pub ends_in : ℕ → List ℕ → List ℕ → Result
+ends_in error stages words = record { error = error; stages = stages; words = words }
 
 -- 'Only that press's stage byte changes then, and otherwise none'; 19: 'wrong stage'
 abbrev pub moved : Next → ℕ → List ℕ → List ℕ → Result
-moved (to t) press stages ws = result 0 (set stages press t) ws
-moved wrong_stage press stages ws = result 19 stages ws
+moved (to t) press stages ws = ends_in 0 (set stages press t) ws
+moved wrong_stage press stages ws = ends_in 19 stages ws
 
 -- 'Errors, in this order', with the desk's answer
 unfoldable pub acted : Answer → List ℕ → List ℕ → List ℕ → ℕ → ℕ → Result
 acted answer ws owners stages press action =
     elim (misfit owners stages press action) [
-      | true ↦ result 17 stages ws
+      | true ↦ ends_in 17 stages ws
       | false ↦
           elim (turned_away answer) [
-            | true ↦ result 18 stages ws
+            | true ↦ ends_in 18 stages ws
             | false ↦ moved (next_stage action (get_or stages press 0)) press stages ws
           ]
     ]

@@ -1,9 +1,10 @@
 // The presses on the floor: an action on a press goes ahead where the desk, called by the press's owner, says yes.
 #![tactic(auto)]
+
 ghost use Rattle.std.specs.Prelude.{◌≡◌};
 ghost use Rattle.mtas.specs.Monitor.{monitor};
 ghost use Rattle.press.specs.Stages.{next_stage};
-ghost use Rattle.press.specs.Acted.{some_above, misfit, question, turned_away, result, act};
+ghost use Rattle.press.specs.Acted.{some_above, misfit, question, turned_away, ends_in, act};
 ghost use Rattle.press.specs.Contract.{next_of, to_where};
 
 use record::Slots;
@@ -40,7 +41,7 @@ enum Next {
 
 // To a stage, where the press's is right.
 fn when(right: bool, to: u8) -> Next
-    ensures* { λ r. ⌜ next_of r ≡ to_where right to ⌝ }
+    ensures { next_of result ≡ to_where right to }
 {
     if right {
         Next::To(to)
@@ -51,7 +52,7 @@ fn when(right: bool, to: u8) -> Next
 
 // The actions, a line for each.
 fn next_stage(action: u8, stage: u8) -> Next
-    ensures* { λ r. ⌜ next_of r ≡ next_stage action stage ⌝ }
+    ensures { next_of result ≡ next_stage action stage }
 {
     match action {
         LOAD => when(stage == IDLE, LOADED),
@@ -65,7 +66,7 @@ fn next_stage(action: u8, stage: u8) -> Next
 
 // Whether some byte is above a limit.
 fn some_above(limit: u8, bytes: &[u8]) -> bool
-    ensures* { λ r. ⌜ r ≡ some_above limit bytes.now ⌝ }
+    ensures { result ≡ some_above limit bytes.now }
 {
     let mut found = false;
     for k in 0..bytes.len() {
@@ -76,7 +77,7 @@ fn some_above(limit: u8, bytes: &[u8]) -> bool
 
 // Error 17: lists that aren't the owners and stages of 32 presses, a press that isn't there, an action that isn't one.
 fn misfit(owners: &[u8], stages: &[u8], press: u8, action: u8) -> bool
-    ensures* { λ r. ⌜ r ≡ misfit owners.now stages.now press action ⌝ }
+    ensures { result ≡ misfit owners.now stages.now press action }
 {
     if owners.len() != PRESSES {
         return true;
@@ -98,8 +99,8 @@ fn misfit(owners: &[u8], stages: &[u8], press: u8, action: u8) -> bool
 
 // Whether the desk turns the owner's question away. It leaves every word of the state.
 fn turned_away(state: &mut [u16], owner: u8, action: u8, issuer: u8, session: u8) -> bool
-    ensures* r_value { λ r. ⌜ r ≡ turned_away (monitor state.old (question owner action issuer session)).answer ⌝ }
-    ensures* state_after { λ _. ⌜ state.new ≡ state.old ⌝ }
+    ensures r_value { result ≡ turned_away (monitor state.old (question owner action issuer session)).answer }
+    ensures state_after { state.new ≡ state.old }
 {
     let made = record::record_of(
         CHECK_ACCESS,
@@ -128,7 +129,7 @@ pub fn act(
     issuer: u8,
     session: u8,
 ) -> u16
-    ensures* { λ r. ⌜ act state.old owners.now stages.old press action issuer session ≡ result r stages.new state.new ⌝ }
+    ensures { act state.old owners.now stages.old press action issuer session ≡ ends_in result stages.new state.new }
 {
     if misfit(owners, stages, press, action) {
         return 17;

@@ -26,7 +26,7 @@ use Rattle.press_house.specs.Cases as house
 use Rattle.press_house.specs.Cases.{Case, NoneStand}
 use Rattle.press_house.proofs.Cases.{after_all, EveryOnStates, every}
 use Rattle.press.specs.Stages.{idle, loaded, pressing, held, load, start, pause, resume, empty, next_in}
-use Rattle.press.specs.Acted.{result, misfit, question, acted, act}
+use Rattle.press.specs.Acted.{ends_in, misfit, question, acted, act}
 use Rattle.press.specs.Floor.{Request, Outcome, floor}
 use Rattle.press.proofs.Laws.{press_laws}
 use Rattle.press_floor.specs.Cycles.{granting, granted_words, withdrawing, withdrawn_words, owners, all_idle, at, on_7, cycle, times, tries, Tried, Cycles}
@@ -61,7 +61,7 @@ says_no = ((refl, (refl, (refl, (refl, (refl, (refl, (refl, (refl, (refl, (refl,
 
 -- ---- the floor, with the desk's answers: one request more
 more : (ws stages : List ℕ) (a : ℕ) (d : Answer) (n : ℕ) (after : List ℕ) → (monitor ws (question 1 a 0 4)).answer ≡ d
-    → acted d ws owners stages 7 a ≡ result n after ws
+    → acted d ws owners stages 7 a ≡ ends_in n after ws
     → (l : List Request) {out : Outcome} → floor ws owners after l ≡ out → floor ws owners stages (on_7 a ∷ l) ≡ record { errors = n ∷ out.errors; stages = out.stages }
 unfolding floor act
 more ws stages a d n after e h l k = rw (e, h) (ap (λ o. record { errors = n ∷ o.errors; stages = o.stages }) k)
@@ -123,7 +123,7 @@ all_tried =
     let y₄ = yes.1.1.1.1.0.0 in
     (one 0 0 0 1 y₀ refl, (one 1 0 19 0 y₁ refl, (one 2 0 19 0 y₂ refl, (one 3 0 19 0 y₃ refl, (one 4 0 19 0 y₄ refl, (one 0 1 19 1 y₀ refl, (one 1 1 0 2 y₁ refl, (one 2 1 19 1 y₂ refl, (one 3 1 19 1 y₃ refl, (one 4 1 0 0 y₄ refl, (one 0 2 19 2 y₀ refl, (one 1 2 19 2 y₁ refl, (one 2 2 0 3 y₂ refl, (one 3 2 19 2 y₃ refl, (one 4 2 19 2 y₄ refl, (one 0 3 19 3 y₀ refl, (one 1 3 19 3 y₁ refl, (one 2 3 19 3 y₂ refl, (one 3 3 0 2 y₃ refl, (one 4 3 0 0 y₄ refl, tt))))))))))))))))))))
   where
-    one : (a s n t : ℕ) → (monitor granted_words (question 1 a 0 4)).answer ≡ through_2 → acted through_2 granted_words owners (at s) 7 a ≡ result n (at t) granted_words
+    one : (a s n t : ℕ) → (monitor granted_words (question 1 a 0 4)).answer ≡ through_2 → acted through_2 granted_words owners (at s) 7 a ≡ ends_in n (at t) granted_words
         → floor granted_words owners (at s) (on_7 a ∷ []) ≡ record { errors = n ∷ []; stages = at t }
     one a s n t e h = more granted_words (at s) a through_2 n (at t) e h [] refl
 

@@ -1,29 +1,10 @@
 -- What is returned gives back the four numbers of the answer, and its upper 16 bits are 0.
-use mathlib.Core.Path.{◌≡◌, refl, ap, ◌∙◌}
+use mathlib.Core.Path.{◌≡◌, refl}
 use mathlib.Core.List.{List}
 use Prim.Native.Nat.{ℕ, ◌/◌, ◌%◌, ◌<◌}
 use native.Mathlib.Omega.{arith}
 use Rattle.mtas.specs.Monitor.{Result}
-use Rattle.monitor.specs.declared.Answer.{Answer}
-use Rattle.monitor.specs.Contract.{answer_of, Gives}
-use Rattle.yermoitu.specs.Packed.{packed_answer, Returns, FourTold}
-
--- the code's answer, packed
-pub returned : {defined : Result} {a : Answer} {number : ℕ} {words : List ℕ} → Gives defined (answer_of a) words → number ≡ packed_answer (answer_of a)
-    → (a.refusal < 65536) × (a.verdict < 65536) × (a.issuer < 256) × (a.role < 256) → Returns defined number words
-returned {defined} {a} g e b =
-    let r : a.refusal ≡ defined.answer.refusal = ap (λ x. x.refusal) g.same_answer in
-    let v : a.verdict ≡ defined.answer.verdict = ap (λ x. x.verdict) g.same_answer in
-    let i : a.issuer ≡ defined.answer.through.issuer = ap (λ x. x.through.issuer) g.same_answer in
-    let n : a.role ≡ defined.answer.through.number = ap (λ x. x.through.number) g.same_answer in
-    record {
-      same_answer = e ∙ ap packed_answer g.same_answer;
-      refusal_fits = omega arith;
-      verdict_fits = omega arith;
-      issuer_fits = omega arith;
-      role_fits = omega arith;
-      same_words = g.same_words;
-    }
+use Rattle.yermoitu.specs.Packed.{Returns, FourTold}
 
 module _ {defined : Result} {number : ℕ} {words : List ℕ} (r : Returns defined number words) where
   refusal_of : number % 65536 ≡ defined.answer.refusal

@@ -5,8 +5,6 @@ use Prim.Native.Nat.{ℕ, ◌/◌, ◌%◌, ◌<◌}
 use native.Mathlib.Omega.{arith}
 use borrow.Author.Tests.{eq-eqb, ne_eqb}
 use Rattle.sheet.specs.Converted.{Result}
-use Rattle.sheet.specs.Found as sheet
-use Rattle.sheet.specs.declared.Answer.{Answer}
 use Rattle.yermoitu.specs.PackedSheet.{with_told, packed_sheet, Converts, BothTold}
 
 module _ (error line bytes : ℕ) where
@@ -19,11 +17,6 @@ module _ (error line bytes : ℕ) where
 -- both numbers come back
 both : (error told : ℕ) → error < 65536 → told < 281474976710656 → (with_told error told % 65536 ≡ error) × (with_told error told / 65536 ≡ told)
 both error told f h = (omega arith, omega arith)
-
--- the number of the code's answer
-pub converts : {defined : Result} {answer : Answer} {number : ℕ} {out : List ℕ} → sheet.Converts defined answer out → answer.error < 65536
-    → number ≡ packed_sheet answer.error answer.line answer.bytes → Converts defined number out
-converts c f n = record { same_answer = rw (c.same_error, c.same_line, c.same_bytes) at n; error_fits = rw c.same_error at f; same_out = c.same_out }
 
 module _ {defined : Result} {number : ℕ} {out : List ℕ} (c : Converts defined number out) where
   abbrev error : ℕ
