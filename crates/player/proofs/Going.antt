@@ -1,6 +1,5 @@
 -- A turn of the player, and a journal that is played up to a byte place: what is printed and what is to come make up the whole text.
 use mathlib.Core.Path.{◌≡◌, refl, ap, sym, ◌∙◌}
-use mathlib.Core.Logic.{⊎_elim}
 use mathlib.Core.List.{List, [], ◌∷◌, ◌++◌, append-nil, append_assoc}
 use Prim.Native.Nat.{ℕ, suc, ◌+◌, ◌-◌, ◌*◌, ◌^◌, ◌≤◌, ◌<◌}
 use native.Mathlib.Numerals.{add-one}
@@ -9,8 +8,6 @@ use lib.ListN.{length, take, drop, length-append}
 use lib.Seq.{drop-drop}
 use mir.Syntax.{w64}
 use mir.Val.{Fits}
-use types.Run.{OneOf}
-use denote.Enum.Declared.{tag_of}
 use borrow.Author.Tests.{le-ltb, lt-ltb, eq-eqb}
 use Rattle.mtas.specs.Layout.{state_length}
 use Rattle.mtas.specs.Record.{kind_of, caller_of}
@@ -20,7 +17,6 @@ use Rattle.mtas.specs.Journal.{Ending, complete, broken_at, Reading, whole, firs
 use Rattle.journal.specs.Found.{found_of, Inside}
 use Rattle.journal.specs.declared.Found.{Found}
 use Rattle.journal.specs.declared.Found.TheVariants.{NoMore, Whole, Partial}
-use Rattle.journal.specs.contracts.Found.{the_type}
 use Rattle.lines.specs.Text.{text_of, text_of_all}
 use Rattle.lines.specs.Written.{Exactly, Appended}
 use Rattle.lines.specs.declared.Buffer.{Buffer}
@@ -131,14 +127,14 @@ ends {before} e g r last a =
       words = rw r at (g.leaves before);
     }
 
--- the tags 0 and 2 are those of NoMore and Partial
+-- what is no whole record ends the journal
 pub going_end : {before journal ws ws' out out' : List ℕ} {used used' at count : ℕ} {found : Found} {line : Buffer} → Going journal ws out used at count
-    → found_of found ≡ first_of (drop at journal) → OneOf (0 ∷ 2 ∷ []) (tag_of the_type found)
+    → found_of found ≡ first_of (drop at journal) → ((len : ℕ) → found ≡ Whole len → ⊥)
     → Turned ws (drop at journal) at count found ws' line → Appended used line used' out out'
     → Played before journal ws' used' out'
 unfolding read_from
 going_end {found = NoMore} g f k t a = rw t.words (ends complete g (rw (sym f, read_from)) (λ n. rw n at t.text) a)
-going_end {found = Whole len} g f k t a = absurd (⊎_elim (λ e. omega arith) (λ e. omega arith) k)
+going_end {found = Whole len} g f k t a = absurd (k len refl)
 going_end {at = at} {found = Partial} g f k t a = rw t.words (ends (broken_at at) g (rw (sym f, read_from)) (λ n. t.text) a)
 
 -- a journal that is too long isn't played

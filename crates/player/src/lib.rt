@@ -1,5 +1,6 @@
 // The journal player: plays each record of a journal, and gathers the printed lines.
 #![tactic(auto)]
+
 ghost use Rattle.std.specs.Prelude.{◌≡◌, ◌≤◌, length, drop};
 ghost use Rattle.mtas.specs.Layout.{state_length};
 ghost use Rattle.mtas.specs.Journal.{journal_limit};

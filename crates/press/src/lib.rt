@@ -99,8 +99,8 @@ fn misfit(owners: &[u8], stages: &[u8], press: u8, action: u8) -> bool
 
 // Whether the desk turns the owner's question away. It leaves every word of the state.
 fn turned_away(state: &mut [u16], owner: u8, action: u8, issuer: u8, session: u8) -> bool
-    ensures r_value { result ≡ turned_away (monitor state.old (question owner action issuer session)).answer }
-    ensures state_after { state.new ≡ state.old }
+    ensures value { result ≡ turned_away (monitor state.old (question owner action issuer session)).answer }
+    ensures state_unchanged { state.new ≡ state.old }
 {
     let made = record::record_of(
         CHECK_ACCESS,
