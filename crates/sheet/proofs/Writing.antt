@@ -1,14 +1,12 @@
 -- A sheet's records written up to a byte place: what stands in the buffer and what is to come make up all of them.
 use mathlib.Core.Path.{◌≡◌, refl, sym, ap, ap₂, ◌∙◌}
 use mathlib.Core.List.{List, [], ◌∷◌, ◌++◌, append_assoc, append-nil}
-use Prim.Native.Nat.{ℕ, suc, ◌+◌, ◌-◌, ◌^◌, ◌≤◌, ◌<◌}
+use Prim.Native.Nat.{ℕ, suc, ◌+◌, ◌-◌, ◌≤◌, ◌<◌}
 use native.Mathlib.Omega.{arith}
 use lib.ListN.{length, take, drop, length-drop, length-append, take-append-drop, drop_of_length-le}
-use lib.Seq.{length-take-le, take_all, take_at, drop_at, drop-drop}
-use borrow.Author.Rules.{part_to_end}
-use borrow.Rule.Slice.PartMut.{put_mid}
-use mir.Syntax.{w64}
-use mir.Val.{Fits}
+use lib.Seq.{length-take-le, drop-drop}
+use borrow.Rule.Slice.PartMut.{put_mid, same_len_mid}
+use Rattle.std.proofs.lemmas.Slice.{take-put_mid, drop-put_mid}
 use Rattle.mtas.specs.Call.{Call}
 use Rattle.mtas.specs.Record.{record_of, encode_call}
 use Rattle.record.specs.Encoded.{Holds}
@@ -51,31 +49,6 @@ writing_start c csv out f = record {
   size = refl;
   room = rw f.good f.room;
 }
-
--- ---- a record put behind the others
-module _ (out : List ℕ) (used : ℕ) (src ys : List ℕ) (fits : used + length src ≤ length out)
-    (copied : ys ≡ take (length src) src ++ drop (length src) (take (length out - used) (drop used out))) where
-  abbrev after : List ℕ
-  after = put_mid used (length out - used) out ys
-
-  parts : after ≡ (take used out ++ src) ++ drop (used + length src) out
-  parts =
-      let none-behind : drop (length out - used) (drop used out) ≡ [] = drop_of_length-le (drop used out) {i = length out - used} (omega (arith, length-drop used out)) in
-      ap (λ b. take used out ++ (ys ++ b)) none-behind
-      ∙ ap (λ b. take used out ++ b) (append-nil ys ∙ copied ∙ rw (take_all (length src) src (omega arith), part_to_end, drop-drop (length src) used out) refl)
-      ∙ sym (append_assoc (take used out) src (drop (used + length src) out))
-
-  front : length (take used out ++ src) ≡ used + length src
-  front = omega (arith, length-append (take used out) src, length-take-le used out (omega arith))
-
-  put_taken : take (used + length src) after ≡ take used out ++ src
-  put_taken = rw parts (take_at (take used out ++ src) (drop (used + length src) out) (used + length src) front)
-
-  put_behind : drop (used + length src) after ≡ drop (used + length src) out
-  put_behind = rw parts (drop_at (take used out ++ src) (drop (used + length src) out) (used + length src) front)
-
-  put_length : length after ≡ length out
-  put_length = rw parts (omega (arith, front, length-append (take used out ++ src) (drop (used + length src) out), length-drop (used + length src) out))
 
 -- ---- the rows to come
 more-calls : (k : Call) (s : Rows) (ls : List Call) → one_call k s ≡ calls ls → (ms : List Call) × (s ≡ calls ms) × (ls ≡ k ∷ ms)
@@ -135,27 +108,35 @@ module _ {c : ℕ} {csv out₀ out : List ℕ} {at used : ℕ} (g : Writing c cs
         unfolding records
         split = ap (records c) the_others.2 ∙ ap (λ b. b ++ records c the_others.0) (sym its_bytes)
 
-        room_for : used + length src ≤ length out
-        room_for = omega (arith, g.used_so, g.room, g.size, ap length split, length-append src (records c the_others.0))
+        -- there is room for its bytes behind the others
+        pub room_for : used + made.len ≤ length out
+        room_for = omega (arith, g.used_so, g.room, g.size, as_long h, ap length split, length-append src (records c the_others.0))
 
-        pub room_behind : length src ≤ length (take (length out - used) (drop used out))
-        room_behind = rw part_to_end (omega (arith, room_for, length-drop used out))
-
-        pub used_fits : length out₀ < 2 ^ 64 → Fits w64 (used + made.len)
-        used_fits l = omega (arith, room_for, as_long h, g.size)
-
-        pub writing_next : {ys : List ℕ} → ys ≡ take (length src) src ++ drop (length src) (take (length out - used) (drop used out))
-            → Writing c csv out₀ (put_mid used (length out - used) out ys) (at + next) (used + made.len)
-        writing_next {ys} copied = rw (as_long h) (record {
+        pub writing_next : {ys : List ℕ} → ys ≡ src → Writing c csv out₀ (put_mid used (used + made.len - used) out ys) (at + next) (used + made.len)
+        writing_next {ys} copied = rw copied (record {
           fuel = g.fuel - 1;
           line = suc g.line;
           left = the_others.0;
           inside = omega (arith, its.inside, length-drop at csv);
           enough = omega (arith, g.enough, its.shorter);
           to_come = the_others.1;
-          used_so = omega (arith, g.used_so, ap length split, length-append src (records c the_others.0));
-          written = rw (put_taken out used src ys room_for copied) (append_assoc (take used out) src (records c the_others.0) ∙ ap (λ b. take used out ++ b) (sym split) ∙ g.written);
-          behind = put_behind out used src ys room_for copied ∙ (sym (drop-drop (length src) used out) ∙ ap (drop (length src)) g.behind ∙ drop-drop (length src) used out₀);
-          size = put_length out used src ys room_for copied ∙ g.size;
+          used_so = omega (arith, g.used_so, as_long h, ap length split, length-append src (records c the_others.0));
+          written = ap (λ b. b ++ records c the_others.0) put_taken ∙ append_assoc (take used out) src (records c the_others.0) ∙ ap (λ b. take used out ++ b) (sym split) ∙ g.written;
+          behind = put_behind ∙ sym (drop-drop made.len used out) ∙ ap (drop made.len) g.behind ∙ drop-drop made.len used out₀;
+          size = put_length ∙ g.size;
           room = g.room;
         })
+          where
+            long : length src ≡ used + made.len - used
+            long = omega (arith, as_long h)
+
+            put_taken : take (used + made.len) (put_mid used (used + made.len - used) out src) ≡ take used out ++ src
+            put_taken = take-put_mid used (used + made.len - used) out src (used + made.len) (omega (arith, long)) used_inside
+
+            put_behind : drop (used + made.len) (put_mid used (used + made.len - used) out src) ≡ drop (used + made.len) out
+            put_behind = drop-put_mid used (used + made.len - used) out src (used + made.len) (omega arith) used_inside long
+
+            put_length : length (put_mid used (used + made.len - used) out src) ≡ length out
+            put_length =
+                same_len_mid used (used + made.len - used) out src
+                (omega (arith, long, room_for, length-take-le (used + made.len - used) (drop used out) (omega (arith, room_for, length-drop used out))))

@@ -1,5 +1,6 @@
 // An estate's sheet, CSV as RFC 4180 has it, made into call records for one caller.
 #![tactic(auto)]
+
 ghost use Rattle.std.specs.Prelude.{◌≡◌, ℕ, ◌≤◌, length};
 ghost use Rattle.sheet.specs.Reading.{rows};
 ghost use Rattle.sheet.specs.Caller.{caller_in, named_of};

@@ -1,5 +1,4 @@
 -- `sheet::caller_in` meets its contract: a number in decimal, or another text.
-use borrow.Author.Rules.{rules}
 use Rattle.sheet.proofs.Digits.{unnamed, named}
 use Rattle.sheet.proofs.caller_in.Goals as goal
 

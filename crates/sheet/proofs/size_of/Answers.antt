@@ -1,7 +1,4 @@
-use borrow.Author.Rules.{rules}
-use Prim.Native.Nat.{◌-◌}
-use lib.ListN.{length}
-use Rattle.sheet.proofs.Sizing.{Sizing, sizing_start, sizing_wrong, lands, line_fits, less, count_fits, bytes_fit, sizing_next, sizing_end}
+use Rattle.sheet.proofs.Sizing.{sizing_start, sizing_wrong, lands, line_fits, less, count_fits, bytes_fit, sizing_next, sizing_end}
 use Rattle.sheet.proofs.size_of.Goals as goal
 
 pub loop-at-init : goal.loop-at-init

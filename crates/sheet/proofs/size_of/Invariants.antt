@@ -1,8 +1,7 @@
 -- `sheet::size_of` meets its contract. The invariant is `Sizing`: the bytes before a place, and what is read from it on, make up the size.
-use borrow.Author.Rules.{rules}
 use Prim.Native.Nat.{◌-◌}
 use lib.ListN.{length}
-use Rattle.sheet.proofs.Sizing.{Sizing, sizing_start, sizing_wrong, lands, line_fits, less, count_fits, bytes_fit, sizing_next, sizing_end}
+use Rattle.sheet.proofs.Sizing.{Sizing}
 use Rattle.sheet.proofs.size_of.Given as goal
 
 abbrev pub invariant-loop-at : goal.invariant-loop-at

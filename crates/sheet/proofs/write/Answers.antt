@@ -1,37 +1,15 @@
-use borrow.Author.Rules.{rules}
-use Prim.Native.Nat.{◌-◌}
-use lib.ListN.{length}
-use Rattle.record.proofs.Within.{as_long, in_its_bytes}
-use Rattle.sheet.proofs.Sizing.{few_arguments, lands, less}
-use Rattle.sheet.proofs.Writing.{Writing, writing_start, used_inside, writing_right, room_behind, used_fits, writing_next, writing_end}
+-- `sheet::write` meets its contract: a good sheet has no wrong row, and each record has room behind the others.
+use Rattle.sheet.proofs.Writing.{writing_right, room_for, writing_next, writing_end}
 use Rattle.sheet.proofs.write.Goals as goal
 
--- unplaced: search writing_start
+pub returns-in_default : goal.returns-in_default
+returns-in_default c = absurd (search writing_right)
 
--- unplaced: c.before.before.before.before.before.loop.invariant.size
+pub slice_bounds-copy_from_slice-end : goal.slice_bounds-copy_from_slice-end
+slice_bounds-copy_from_slice-end c = search room_for
 
--- unplaced: absurd (search writing_right)
+pub loop-at-preserved : goal.loop-at-preserved
+loop-at-preserved c = search writing_next
 
--- unplaced: search few_arguments
-
--- unplaced: search in_its_bytes
-
--- unplaced: search as_long
-
--- unplaced: search used_inside
-
--- unplaced: search used_inside
-
--- unplaced: search room_behind
-
--- unplaced: search used_fits
-
--- unplaced: search lands
-
--- unplaced: search less
-
--- unplaced: search writing_next
-
--- unplaced: c.before.loop.invariant.size
-
--- unplaced: search writing_end
+pub returns : goal.returns
+returns c = search writing_end

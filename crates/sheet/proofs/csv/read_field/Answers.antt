@@ -1,5 +1,4 @@
 -- `sheet::csv::read_field` meets its contract: a plain field, one between quotes, or one whose text isn't TEXTDATA alone.
-use borrow.Author.Rules.{rules}
 use borrow.Author.Rules.{part_to_end}
 use Prim.Native.Nat.{◌+◌}
 use native.Mathlib.Omega.{arith}

@@ -1,7 +1,5 @@
 use borrow.Author.Rules.{rules}
-use Prim.Native.Nat.{◌-◌, ◌≤◌}
-use lib.ListN.{length}
-use Rattle.sheet.proofs.Texts.{Passed, one_passed, stopped, all_text}
+use Rattle.sheet.proofs.Texts.{one_passed, stopped, all_text}
 use Rattle.sheet.proofs.csv.text_length.Goals as goal
 
 pub returns-then-not-textdata : goal.returns-then-not-textdata

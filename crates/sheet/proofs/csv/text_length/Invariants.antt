@@ -1,8 +1,7 @@
 -- `sheet::csv::text_length` meets its contract. The invariant: the bytes before i are TEXTDATA.
-use borrow.Author.Rules.{rules}
 use Prim.Native.Nat.{◌-◌, ◌≤◌}
 use lib.ListN.{length}
-use Rattle.sheet.proofs.Texts.{Passed, one_passed, stopped, all_text}
+use Rattle.sheet.proofs.Texts.{Passed}
 use Rattle.sheet.proofs.csv.text_length.Given as goal
 
 abbrev pub invariant-loop-i : goal.invariant-loop-i

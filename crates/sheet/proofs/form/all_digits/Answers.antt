@@ -1,8 +1,4 @@
 use borrow.Author.Rules.{rules}
-use mathlib.Core.Path.{◌≡◌}
-use Prim.Native.Nat.{◌-◌, ◌≤◌}
-use lib.ListN.{length, drop}
-use Rattle.sheet.specs.Caller.{all_digits}
 use Rattle.sheet.proofs.Digits.{to_the_last, below, beyond, one_digit}
 use Rattle.sheet.proofs.form.all_digits.Goals as goal
 

@@ -1,10 +1,8 @@
 -- `sheet::form::all_digits` meets its contract. The invariant: the text is digits alone if what is left of it is.
-use borrow.Author.Rules.{rules}
 use mathlib.Core.Path.{◌≡◌}
 use Prim.Native.Nat.{◌-◌, ◌≤◌}
 use lib.ListN.{length, drop}
 use Rattle.sheet.specs.Caller.{all_digits}
-use Rattle.sheet.proofs.Digits.{to_the_last, below, beyond, one_digit}
 use Rattle.sheet.proofs.form.all_digits.Given as goal
 
 abbrev pub invariant-loop-i : goal.invariant-loop-i

@@ -1,5 +1,4 @@
 -- `sheet::form::decimal` meets its contract, by the text's length and first byte.
-use borrow.Author.Rules.{rules}
 use Rattle.sheet.proofs.Digits.{empty, single, leading_zero, several}
 use Rattle.sheet.proofs.form.decimal.Goals as goal
 

@@ -1,5 +1,4 @@
 -- `sheet::form::number` meets its contract, by the text's length and first byte.
-use borrow.Author.Rules.{rules}
 use Rattle.sheet.proofs.Texts.{one_digit, two_digits, not_ten, no_number}
 use Rattle.sheet.proofs.form.number.Goals as goal
 

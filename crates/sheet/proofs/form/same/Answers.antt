@@ -1,9 +1,5 @@
 use borrow.Author.Rules.{rules}
-use mathlib.Core.Path.{◌≡◌}
-use Prim.Native.Nat.{◌-◌, ◌≤◌}
 use native.Mathlib.Omega.{arith}
-use lib.ListN.{length, drop}
-use Rattle.sheet.specs.Reading.{same}
 use Rattle.sheet.proofs.Texts.{other_length, same_byte, other_byte, to_the_end}
 use Rattle.sheet.proofs.form.same.Goals as goal
 

@@ -1,11 +1,8 @@
 -- `sheet::form::same` meets its contract. The invariant: the texts are the same if what is left of them is.
-use borrow.Author.Rules.{rules}
 use mathlib.Core.Path.{◌≡◌}
 use Prim.Native.Nat.{◌-◌, ◌≤◌}
-use native.Mathlib.Omega.{arith}
 use lib.ListN.{length, drop}
 use Rattle.sheet.specs.Reading.{same}
-use Rattle.sheet.proofs.Texts.{other_length, same_byte, other_byte, to_the_end}
 use Rattle.sheet.proofs.form.same.Given as goal
 
 abbrev pub invariant-loop-i : goal.invariant-loop-i

@@ -1,5 +1,4 @@
 -- `sheet::form::with_digit` meets its contract: below the digits, above the greatest one, and a digit.
-use borrow.Author.Rules.{rules}
 use Rattle.sheet.proofs.Bytes.{below_digits, above_digits, a_digit}
 use Rattle.sheet.proofs.form.with_digit.Goals as goal
 

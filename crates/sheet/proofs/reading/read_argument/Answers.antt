@@ -1,5 +1,4 @@
 -- `sheet::reading::read_argument` meets its contract: no comma, no number from 0 to 15 behind it, or one.
-use borrow.Author.Rules.{rules}
 use borrow.Author.Rules.{part_to_end}
 use native.Mathlib.Omega.{arith}
 use lib.ListN.{length-drop}

@@ -1,6 +1,5 @@
 use borrow.Author.Rules.{rules}
-use Prim.Native.Nat.{◌-◌}
-use Rattle.sheet.proofs.Following.{Collected, collect_none, lands, collect_one, collect_no_more, collect_all}
+use Rattle.sheet.proofs.Following.{collect_none, lands, collect_one, collect_no_more, collect_all}
 use Rattle.sheet.proofs.reading.read_arguments.Goals as goal
 
 pub loop-i-init : goal.loop-i-init

@@ -1,7 +1,6 @@
 -- `sheet::reading::read_arguments` meets its contract. The invariant: the first i arguments were read, up to a place.
-use borrow.Author.Rules.{rules}
 use Prim.Native.Nat.{◌-◌}
-use Rattle.sheet.proofs.Following.{Collected, collect_none, lands, collect_one, collect_no_more, collect_all}
+use Rattle.sheet.proofs.Following.{Collected}
 use Rattle.sheet.proofs.reading.read_arguments.Given as goal
 
 abbrev pub invariant-loop-i : goal.invariant-loop-i

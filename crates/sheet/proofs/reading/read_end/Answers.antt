@@ -1,5 +1,4 @@
 -- `sheet::reading::read_end` meets its contract: the sheet's end, CR and LF, or neither.
-use borrow.Author.Rules.{rules}
 use native.Mathlib.Omega.{arith}
 use Rattle.sheet.proofs.Ends.{sheet_end, crlf, no_cr, no_lf}
 use Rattle.sheet.proofs.reading.read_end.Goals as goal

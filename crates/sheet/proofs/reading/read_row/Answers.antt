@@ -1,5 +1,4 @@
 -- `sheet::reading::read_row` meets its contract: no word, no such arguments, no end, or a row.
-use borrow.Author.Rules.{rules}
 use native.Mathlib.Omega.{arith}
 use Rattle.sheet.proofs.Made.{no_word_in_front, wrong_arguments, numbers-inside, at_fits, wrong_end, next_fits, a_row}
 use Rattle.sheet.proofs.reading.read_row.Goals as goal
