@@ -53,7 +53,7 @@ pub fn byte_at(bytes: &[u8], place: usize) -> u8
 }
 
 // A set of roles: a word for each issuer, with bit r for role r.
-#[derive(Drop)]
+#[derive(Clone, Copy)]
 pub struct RoleSet {
     pub words: [u16; 16],
 }
