@@ -1,6 +1,6 @@
 /* Yermoitu, the press portal's reference monitor, its converter of sheets and the guard of its presses, for programs in C and C++.
 
-   `rt staticlib yermoitu` proves them and writes target/staticlib/libyermoitu.a, for x86-64
+   `scripts/library` proves them and writes target/staticlib/libyermoitu.a, for x86-64
    Linux. Link it behind your own files. It has no variables of its own, takes no memory from the
    heap, needs less than 2 KB of stack, and calls nothing but memcpy. (Where a loader looks memcpy up
    only in its first call, that call needs the loader's stack too, some 2.5 KB.)

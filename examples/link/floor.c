@@ -1,7 +1,7 @@
 /* A press's controller through a day: estate 1 owns press 7 and lends it to estate 0, whose press hand works it until 0 ends its trust.
    From the repository's root:
 
-       rt staticlib yermoitu
+       scripts/library
        gcc -std=c11 -O2 -Wall -Wextra -Werror -Iinclude examples/link/floor.c target/staticlib/libyermoitu.a -o target/floor-c
        target/floor-c
 */

@@ -2,7 +2,7 @@
    it: 0's own role, while that one holds the permission, and then a role of 1's that is attached below it.
    From the repository's root:
 
-       rt staticlib yermoitu
+       scripts/library
        gcc -std=c11 -O2 -Wall -Wextra -Werror -Iinclude examples/link/press.c target/staticlib/libyermoitu.a -o target/press-c
        target/press-c
 */

@@ -1,7 +1,7 @@
 // The story of press.c, told from Rust.
 // From the repository's root:
 //
-//     rt staticlib yermoitu
+//     scripts/library
 //     rustc --edition 2021 -O -D warnings -L native=target/staticlib -l static=yermoitu examples/link/press.rs -o target/press-rs
 //     target/press-rs
 
