@@ -33,3 +33,60 @@ pub fn fill<R: Read>(input: &mut R, buffer: &mut [u8]) -> Filled
         failed: false,
     }
 }
+
+#[cfg(test)]
+mod tests {
+    use super::*;
+    use std::io::{Error, ErrorKind, Result};
+
+    // Gives a byte at each read, and fails at one of them.
+    #[derive(Drop)]
+    struct Drips {
+        given: u8,
+        fails_at: u8,
+    }
+
+    impl Read for Drips {
+        fn read(&mut self, buf: &mut [u8]) -> Result<usize> {
+            if self.given == self.fails_at || buf.is_empty() {
+                return Err(Error::from(ErrorKind::Other));
+            }
+            self.given = self.given.wrapping_add(1);
+            buf[0] = self.given;
+            Ok(1)
+        }
+    }
+
+    #[test]
+    fn fills_from_many_reads(rt: HostRuntime) {
+        let mut buffer = [0u8; 4];
+        let mut drips = Drips {
+            given: 0,
+            fails_at: 9,
+        };
+        let filled = fill(&mut drips, &mut buffer);
+        assert!(rt; filled.size == 4 && !filled.failed);
+        assert_eq!(rt; buffer, [1, 2, 3, 4]);
+    }
+
+    #[test]
+    fn keeps_what_came_before_a_failed_read(rt: HostRuntime) {
+        let mut buffer = [0u8; 4];
+        let mut drips = Drips {
+            given: 0,
+            fails_at: 2,
+        };
+        let filled = fill(&mut drips, &mut buffer);
+        assert!(rt; filled.size == 2 && filled.failed);
+        assert_eq!(rt; buffer, [1, 2, 0, 0]);
+    }
+
+    #[test]
+    fn ends_with_the_input(rt: HostRuntime) {
+        let mut buffer = [0u8; 4];
+        let mut input: &[u8] = b"abc";
+        let filled = fill(&mut input, &mut buffer);
+        assert!(rt; filled.size == 3 && !filled.failed);
+        assert_eq!(rt; buffer, [97, 98, 99, 0]);
+    }
+}
