@@ -128,6 +128,7 @@ fn full(set: RoleSet) -> bool
 }
 
 // Whether no role reaches itself by one or more attachments. With seniors before juniors one visit frees each role; sweeps decide the rest.
+#[inline(never)]
 pub fn acyclic(links: &[u16]) -> bool
     requires { length links.now ≡ links_length }
     ensures { (result ≡ true) ↔ Acyclic (linked links.now) }
