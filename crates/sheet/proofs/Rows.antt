@@ -74,7 +74,7 @@ of_three P call form c ns Follow.no_more e = absurd (omega arith)
 of_three P call form c ns (Follow.one_more {c = d} {ns = ms} {n = x} f h s) e = of_two (λ ts. P (decimal x ∷ ts)) (call x) (λ y z. form x y z h) d ms s (omega arith)
 
 word_fits : {w : List ℕ} {n : ℕ} → Word w n → Fits w (kind_at n)
-word_fits Word.a_user = of_one (λ ts. Form (user ∷ ts)) AddUser (λ x h. Form.a_user h)
+word_fits Word.a_user = of_one (λ ts. Form (user ∷ ts)) AddUser (λ x h. Form.a_user (omega arith))
 word_fits Word.a_role = of_one (λ ts. Form (role ∷ ts)) AddRole (λ x h. Form.a_role h)
 word_fits Word.a_permission = of_one (λ ts. Form (perm ∷ ts)) AddPerm (λ x h. Form.a_permission h)
 word_fits Word.a_trust = of_one (λ ts. Form (trust ∷ ts)) AssignTrust (λ x h. Form.a_trust h)
@@ -89,7 +89,7 @@ data Named : List (List ℕ) → Call → Type 0 where
 
 form_named : {ts : List (List ℕ)} {k : Call} → Form ts k → Named ts k
 unfolding kind_named same
-form_named (Form.a_user {u = u} h) = named user (u ∷ []) _ refl refl (h, tt)
+form_named (Form.a_user {u = u} h) = named user (u ∷ []) _ refl refl (omega arith, tt)
 form_named (Form.a_role {r = r} h) = named role (r ∷ []) _ refl refl (h, tt)
 form_named (Form.a_permission {p = p} h) = named perm (p ∷ []) _ refl refl (h, tt)
 form_named (Form.a_trust {j = j} h) = named trust (j ∷ []) _ refl refl (h, tt)

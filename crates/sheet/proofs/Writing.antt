@@ -96,6 +96,13 @@ module _ {c : ℕ} {csv out₀ out : List ℕ} {at used : ℕ} (g : Writing c cs
           more-calls the_call.call (rows_from (g.fuel - 1) (suc g.line) (drop (at + next) csv)) g.left
           (sym (rows_read g.fuel g.line (drop at csv) some enough the_call.was) ∙ g.to_come)
 
+      -- there is room for its bytes behind the others
+      pub room_for : {len : ℕ} → len ≡ length (record_of k.kind c (slots_of k)) → used + len ≤ length out
+      unfolding records
+      room_for e =
+          let all = ap (λ ks. length (records c ks)) the_others.2 in
+          omega (arith, g.used_so, g.room, g.size, e, all, ap length the_call.bytes, length-append (encode_call c the_call.call) (records c the_others.0))
+
       module _ {made : Encoded} (h : Holds made (record_of k.kind c (slots_of k))) where
         abbrev src : List ℕ
         src = take made.len made.bytes
@@ -107,10 +114,6 @@ module _ {c : ℕ} {csv out₀ out : List ℕ} {at used : ℕ} (g : Writing c cs
         split : records c g.left ≡ src ++ records c the_others.0
         unfolding records
         split = ap (records c) the_others.2 ∙ ap (λ b. b ++ records c the_others.0) (sym its_bytes)
-
-        -- there is room for its bytes behind the others
-        pub room_for : used + made.len ≤ length out
-        room_for = omega (arith, g.used_so, g.room, g.size, as_long h, ap length split, length-append src (records c the_others.0))
 
         pub writing_next : {ys : List ℕ} → ys ≡ src → Writing c csv out₀ (put_mid used (used + made.len - used) out ys) (at + next) (used + made.len)
         writing_next {ys} copied = rw copied (record {
@@ -139,4 +142,4 @@ module _ {c : ℕ} {csv out₀ out : List ℕ} {at used : ℕ} (g : Writing c cs
             put_length : length (put_mid used (used + made.len - used) out src) ≡ length out
             put_length =
                 same_len_mid used (used + made.len - used) out src
-                (omega (arith, long, room_for, length-take-le (used + made.len - used) (drop used out) (omega (arith, room_for, length-drop used out))))
+                (omega (arith, long, room_for h.len, length-take-le (used + made.len - used) (drop used out) (omega (arith, room_for h.len, length-drop used out))))
