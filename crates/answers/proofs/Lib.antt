@@ -1,4 +1,4 @@
 pub mod Found
-pub mod Used
 pub mod Tries
 pub mod Refusals
+pub mod Used

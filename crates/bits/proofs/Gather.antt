@@ -1,11 +1,16 @@
 -- The bits gathered from several words: none are found exactly where no word has any.
-use mathlib.Core.Path.{◌≡◌, refl, ap₂, sym, ◌∙◌}
+use mathlib.Core.Path.{◌≡◌, refl, ap, ap₂, sym, ◌∙◌}
 use mathlib.Core.Logic.{◌↔◌, ◌⊎◌, inl, inr}
 use mathlib.Core.Bool.{Bool, true, false, not, ◌&&◌, ◌||◌}
 use Prim.Native.Nat.{ℕ, zero, suc, ◌+◌, ◌-◌, ◌<◌, ◌≤◌}
 use native.Mathlib.Numerals.{add-one}
 use native.Mathlib.Omega.{arith}
 use lib.Bits.{bit_and, bit_or, or_add_and, and_le_l, and_le_r}
+use lib.ListN.{length, take, get_or}
+use mathlib.Core.List.{List}
+use Rattle.std.specs.List.{fold}
+use Rattle.std.proofs.lemmas.List.{take_all}
+use Rattle.std.proofs.lemmas.List.Sums.{fold_more}
 use Rattle.bits.specs.Below.{any_below}
 use Rattle.bits.specs.Bit.{bit}
 use Rattle.bits.specs.Gather.{gather}
@@ -74,3 +79,15 @@ common_bit a b l = (λ ne. find ne (any_below 16 both) refl, λ (n, m, p, q) e. 
     find ne false e =
         absurd (ne (word_ext 16 _ 0 (omega (arith, and_le_l a b)) (omega arith)
         (λ n m. bit-and a b n ∙ untrue (both n) (λ t. clash (any_intro 16 both n m t) e) ∙ sym (bit_0 n))))
+
+pub none_or : (w : ℕ) → bit_or 0 w ≡ w
+none_or w = omega (arith, or_add_and 0 w, and_le_l 0 w)
+
+-- or-ing what h reads of a list's items, from the front on, gathers it
+pub fold_gather : {A : Type 0} (h : A → ℕ) (xs : List A) (n : ℕ) (d : A) → length xs ≡ n → fold (λ a x. bit_or a (h x)) 0 xs ≡ gather n (λ i. h (get_or xs i d))
+unfolding gather
+fold_gather {A} h xs n d e = ap (fold (λ a x. bit_or a (h x)) 0) (sym (take_all n xs (omega arith))) ∙ front n (omega arith)
+  where
+    front : (k : ℕ) → k ≤ length xs → fold (λ a x. bit_or a (h x)) 0 (take k xs) ≡ gather k (λ i. h (get_or xs i d))
+    front zero l = refl
+    front (suc k) l = rw (← add-one k, fold_more (λ a x. bit_or a (h x)) 0 xs k d (omega arith), front k (omega arith))

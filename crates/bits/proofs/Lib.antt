@@ -6,4 +6,5 @@ pub mod Stride
 pub mod Roles
 pub mod Gather
 mod Lowest
+mod Each
 pub mod Sizes

@@ -11,11 +11,9 @@ use lib.Dec.{eqb}
 use lib.ListN.{length, get_or, set, replicate, get_or-eq_default}
 use Rattle.bits.specs.Bit.{bit, with_bit}
 use Rattle.bits.specs.RoleSet.{in_set, Added, Union}
-use Rattle.bits.specs.Stride.{in_run}
 use Rattle.bits.specs.Update.{Updated}
 use Rattle.bits.proofs.Bit.{bit_0, bit-or, bit_with, word_ext}
-use Rattle.bits.proofs.Booleans.{below_or_not, untrue}
-use Rattle.bits.proofs.Stride.{run_in, run_out}
+use Rattle.bits.proofs.Booleans.{below_or_not}
 use Rattle.bits.proofs.Update.{updated_none, updated_more}
 
 zeros : (n i : ℕ) → ◌≡◌ {A = ℕ} (get_or (replicate n 0) i 0) 0
@@ -42,13 +40,12 @@ added {i} {r} {w} {words} h e = record { each = λ j q. ap (λ (x : ℕ). bit x 
     go true x q = bit_with x r q
     go false x q = sym (or-false (bit x q))
 
-pub union : {t : ℕ} {left right both : List ℕ} → length right ≤ t
-    → Updated (in_run 0 t) (λ k x. bit_or x (get_or right k 0)) left both → Union left right both
-union {t} {left} {right} {both} h u = record { each = λ j q. ap (λ (x : ℕ). bit x q) (u.each j) ∙ go j q (below_or_not j t) }
+pub union : {left right both : List ℕ} → length left ≡ 16 → length right ≡ 16 → length both ≡ 16
+    → ((i : ℕ) → i < 16 → get_or both i 0 ≡ bit_or (get_or left i 0) (get_or right i 0)) → Union left right both
+union {left} {right} {both} hl hr hb h = record { each = λ j q. go j q (below_or_not j 16) }
   where
-    go : (j q : ℕ) → (j < t) ⊎ (t ≤ j)
-        → bit (cond (in_run 0 t j) (bit_or (get_or left j 0) (get_or right j 0)) (get_or left j 0)) q ≡ in_set left j q || in_set right j q
-    go j q (inl l) = rw (run_in 0 t j (omega arith) (omega arith)) (bit-or (get_or left j 0) (get_or right j 0) q)
+    go : (j q : ℕ) → (j < 16) ⊎ (16 ≤ j) → in_set both j q ≡ in_set left j q || in_set right j q
+    go j q (inl l) = rw (h j l) (bit-or (get_or left j 0) (get_or right j 0) q)
     go j q (inr l) =
-        rw (untrue (in_run 0 t j) (λ e. omega (arith, run_out 0 t j e)), get_or-eq_default right 0 {n = j} (omega arith), bit_0 q)
-        (sym (or-false (in_set left j q)))
+        rw (get_or-eq_default left 0 {n = j} (omega arith), get_or-eq_default right 0 {n = j} (omega arith), get_or-eq_default both 0 {n = j} (omega arith), bit_0 q)
+        refl

@@ -3,13 +3,17 @@ use mathlib.Core.Path.{◌≡◌, refl, ap, sym, ◌∙◌}
 use mathlib.Core.Logic.{◌≢◌}
 use mathlib.Core.Bool.{Bool, true, false, ◌&&◌, ◌||◌, or-false}
 use mathlib.Core.List.{List}
-use Prim.Native.Nat.{ℕ, zero, suc, ◌+◌, ◌*◌, ◌/◌, ◌%◌, ◌^◌, ◌<◌}
+use Prim.Native.Nat.{ℕ, zero, suc, ◌+◌, ◌*◌, ◌/◌, ◌%◌, ◌^◌, ◌<◌, ◌≤◌}
 use native.Mathlib.Nat.{pow-suc}
 use native.Mathlib.Omega.{arith}
 use borrow.Author.Tests.{eq-eqb, eqb-true}
 use lib.Count.{ones, ones_step, ones-le}
 use lib.Dec.{eqb}
-use lib.ListN.{get_or}
+use lib.ListN.{length, take, get_or}
+use native.Mathlib.Numerals.{add-one}
+use Rattle.std.specs.List.{sum_by}
+use Rattle.std.proofs.lemmas.List.{take_all}
+use Rattle.std.proofs.lemmas.List.Sums.{fold_more}
 use Rattle.bits.specs.Bit.{bit}
 use Rattle.bits.specs.Below.{tally}
 use Rattle.bits.specs.RoleSet.{in_set, size, Added}
@@ -55,6 +59,17 @@ size-more words i l = ap (λ n. tally n has) next ∙ omega (arith, tally-add (1
         let q : (16 * i + k) / 16 ≡ i = omega arith in
         let r : (16 * i + k) % 16 ≡ k = omega arith in
         rw (q, r) refl)
+
+-- a set's roles, counted word by word
+pub size_sum : (words : List ℕ) → length words ≡ 16 → ((i : ℕ) → get_or words i 0 < 65536) → sum_by ones words ≡ size words
+unfolding tally
+size_sum words long wide = ap (sum_by ones) (sym (take_all 16 words (omega arith))) ∙ front 16 (omega arith)
+  where
+    front : (k : ℕ) → k ≤ 16 → sum_by ones (take k words) ≡ tally (16 * k) (λ k. in_set words (k / 16) (k % 16))
+    front zero l = refl
+    front (suc k) l =
+        rw (← add-one k)
+        (fold_more (λ a x. a + ones x) 0 words k 0 (omega arith) ∙ omega (arith, front k (omega arith), size-more words k (wide k)))
 
 -- a role more
 pub size_added : {i r : ℕ} {s t : List ℕ} → i < 16 → r < 16 → in_set s i r ≡ false → Added i r s t → size t ≡ size s + 1

@@ -2,42 +2,36 @@
 // After B the word of 1%5's holders among issuer 0's roles is written too: the grant is gone.
 #![tactic(auto)]
 
-use monitor::Answer;
+use monitor::{Answer, Outcome};
 
-// The state S, from starting on.
+// The state S: starting, and these records.
 fn make_s(state: &mut [u16]) {
-    monitor::start(state);
-    enrol_and_trust(state);
-    add_and_hold(state);
-    open_and_grant(state);
-}
-
-// Issuers 0 and 1 are enrolled, and 0 trusts 1.
-fn enrol_and_trust(state: &mut [u16]) {
-    monitor::call(state, b"\x06\x00\x01\x00\x10\x00");
-    monitor::call(state, b"\x06\x00\x01\x00\x10\x01");
-    monitor::call(state, b"\x06\x00\x03\x00\x00\x01");
-}
-
-// 0@3 holds 0#2, which is public, and 0#3 is present and unheld.
-fn add_and_hold(state: &mut [u16]) {
-    monitor::call(state, b"\x06\x00\x05\x00\x00\x03");
-    monitor::call(state, b"\x06\x00\x07\x00\x00\x02");
-    monitor::call(state, b"\x06\x00\x07\x00\x00\x03");
-    monitor::call(state, b"\x07\x00\x0b\x00\x00\x03\x02");
-    monitor::call(state, b"\x06\x00\x16\x00\x00\x02");
-}
-
-// 0/4 is open for 0@3 with role 2 active, and 1%5 is granted to 0#2.
-fn open_and_grant(state: &mut [u16]) {
-    monitor::call(state, b"\x07\x00\x11\x00\x00\x04\x03");
-    monitor::call(state, b"\x07\x00\x13\x00\x00\x04\x02");
-    monitor::call(state, b"\x06\x00\x09\x00\x01\x05");
-    monitor::call(state, b"\x08\x00\x0d\x00\x01\x05\x00\x02");
+    let records: [&[u8]; 12] = [
+        // Issuers 0 and 1 are enrolled, and 0 trusts 1.
+        b"\x06\x00\x01\x00\x10\x00",
+        b"\x06\x00\x01\x00\x10\x01",
+        b"\x06\x00\x03\x00\x00\x01",
+        // 0@3 holds 0#2, which is public, and 0#3 is present and unheld.
+        b"\x06\x00\x05\x00\x00\x03",
+        b"\x06\x00\x07\x00\x00\x02",
+        b"\x06\x00\x07\x00\x00\x03",
+        b"\x07\x00\x0b\x00\x00\x03\x02",
+        b"\x06\x00\x16\x00\x00\x02",
+        // 0/4 is open for 0@3 with role 2 active, and 1%5 is granted to 0#2.
+        b"\x07\x00\x11\x00\x00\x04\x03",
+        b"\x07\x00\x13\x00\x00\x04\x02",
+        b"\x06\x00\x09\x00\x01\x05",
+        b"\x08\x00\x0d\x00\x01\x05\x00\x02",
+    ];
+    let _ = monitor::start(state);
+    for record in records {
+        let _ = monitor::call(state, record);
+    }
 }
 
 // A line that can't be written is left out.
-fn show(rt: &impl Print, letter: char, a: Answer) {
+fn show(rt: &impl Print, letter: char, outcome: Outcome) {
+    let a = Answer::from(outcome);
     let _ = println!(rt;
         "{letter} {} {} {} {}",
         a.refusal, a.verdict, a.issuer, a.role
@@ -53,7 +47,7 @@ fn try_on_s(rt: &impl Print, state: &mut [u16], letter: char, record: &[u8]) {
 // A record tried on S after another.
 fn try_after(rt: &impl Print, state: &mut [u16], letter: char, first: &[u8], record: &[u8]) {
     make_s(state);
-    monitor::call(state, first);
+    let _ = monitor::call(state, first);
     show(rt, letter, monitor::call(state, record));
 }
 

@@ -1,11 +1,7 @@
 -- An accepted call's effect may be done, and leaves what the model says.
-use mathlib.Core.Path.{◌≡◌, refl, ap, sym, subst, ◌∙◌}
-use mathlib.Core.List.{List, [], ◌∷◌}
-use mathlib.Core.Bool.{Bool, true, false, not, ◌||◌, decide}
-use Prim.Native.Nat.{ℕ, ◌<◌}
+use Rattle.std.proofs.Common.{◌≡◌, refl, ap, sym, subst, ◌∙◌, List, [], ◌∷◌, Bool, true, false, not, ◌||◌, ℕ, ◌<◌, eqb, get_or}
+use mathlib.Core.Bool.{decide}
 use native.Mathlib.Decide.{ℕ_discrete}
-use lib.Dec.{eqb}
-use lib.ListN.{length, get_or}
 use borrow.Author.Tests.{eqb-false}
 use Rattle.bits.proofs.Booleans.{clash, untrue}
 use Rattle.mtas.specs.Fact.{Fact, enrolled, trusts, opened, same, numbers, Below16}
@@ -15,19 +11,19 @@ use Rattle.mtas.specs.Law.{Lawful, In, here, there}
 use Rattle.mtas.specs.Call.{Call, AddIssuer, RemoveIssuer, AssignTrust, RevokeTrust, AddUser, RemoveUser, AddRole, RemoveRole, AddPerm, RemovePerm, AssignUser, RevokeUser, AssignPerm, RevokePerm, AssignRH, RevokeRH, CreateSession, DeleteSession, AddActiveRole, DropActiveRole, CheckAccess, PublishRole, UnpublishRole}
 use Rattle.mtas.specs.Rule as model
 use Rattle.mtas.specs.Answer as answers
-use Rattle.mtas.specs.Layout.{Word, in_session, cell, bit_while, place, state_length, encode, view}
+use Rattle.mtas.specs.Layout.{Word, in_session, cell, bit_while, place, encode, view}
 use Rattle.mtas.proofs.Cells.{Says, said-there, placed}
 use Rattle.mtas.proofs.Facts.{All, same_true, put-new, put-more}
 use Rattle.mtas.proofs.Guards.{Passed, passed}
 use Rattle.mtas.proofs.Law.{rooted, cut_rooted}
 use Rattle.mtas.proofs.Sessions.{closed}
 use Rattle.mtas.proofs.Step.{leaves, next_lawful}
-use Rattle.mtas.proofs.Words.{encode_length, words_of, encode-view, contents_view, sound-words}
+use Rattle.mtas.proofs.Words.{words_of, encode-view, contents_view, sound-words}
 use Rattle.facts.specs.declared.Fact.{Fact as Code}
 use Rattle.facts.specs.Table.{fact_of}
 use Rattle.rule.specs.declared.Effect.{Effect}
 use Rattle.rule.specs.declared.Effect.TheVariants.{Enrols, Puts, Cuts, Decides}
-use Rattle.rule.specs.Table.{effect_of, IsEffect}
+use Rattle.rule.specs.Table.{effect_of}
 use Rattle.effects.specs.Effect.{Accepted, Left}
 use Rattle.effects.specs.Put.{Put}
 use Rattle.effects.specs.Cut.{Apart, MayCut, Cut, is_holding, Breaking}
@@ -84,9 +80,9 @@ module _ (st : State) (L : Lawful st) where
   acts c (PublishRole r) p = (tt, tt)
   acts c (UnpublishRole r) p = (p.own.1.0, λ i. refl)
 
-module _ {ws : List ℕ} {c : ℕ} {k : Call} {x y : Effect} (a : Accepted ws c k) (e : IsEffect (view ws) c k x) (d : x ≡ y) where
+module _ {ws : List ℕ} {c : ℕ} {k : Call} {x y : Effect} (a : Accepted ws c k) (e : effect_of x ≡ (model.rule (user_of (view ws) c) c k).effect) (d : x ≡ y) where
   effect_is : (model.rule (user_of (view ws) c) c k).effect ≡ effect_of y
-  effect_is = sym e.is ∙ ap effect_of d
+  effect_is = sym e ∙ ap effect_of d
 
   acted : Acts (view ws) (effect_of y)
   acted = subst (Acts (view ws)) effect_is (acts (view ws) a.lawful.lawful c k (passed (view ws) c k a.passes))
@@ -101,26 +97,24 @@ neither : (p q : Bool) → not p || q ≡ false → (p ≡ true) × (q ≡ false
 neither true q h = (refl, h)
 neither false q h = absurd (clash refl h)
 
-pub cut-long : {ws vs : List ℕ} {f : Fact} → Cut f ws vs → length vs ≡ state_length
-cut-long {ws} {f = f} p = rw p.words (encode_length (cut f (view ws)))
-
-module _ {ws : List ℕ} {c : ℕ} {k : Call} {x : Effect} (a : Accepted ws c k) (e : IsEffect (view ws) c k x) where
+module _ {ws : List ℕ} {c : ℕ} {k : Call} (a : Accepted ws c k) where
   holds_now : Hold (view ws) ws
   holds_now = record { long = a.lawful.long; each = λ w b. sym (contents_view ws (sound-words a.lawful) w b) }
 
+module _ {ws : List ℕ} {c : ℕ} {k : Call} {x : Effect} (a : Accepted ws c k) (e : effect_of x ≡ (model.rule (user_of (view ws) c) c k).effect) where
   -- a fact of the list that is put has numbers below 16
   put_numbered : {y : Effect} {l : List Fact} → x ≡ y → effect_of y ≡ model.puts l → {f : Fact} → In f l → Below16 (numbers f)
   put_numbered d q {f} m = (next_lawful (view ws) a.lawful.lawful c k).numbered f (rw (next_is a e d ∙ ap (λ z. answers.change z (view ws)) q) (put-new _ (view ws) m))
 
   pub has_put : {f : Code} {vs : List ℕ} → x ≡ Puts f → Put (fact_of f) ws vs → Left ws c k vs
   has_put d p =
-      let H = put_holds holds_now (put_numbered d refl here) (acted a e d).0 p in
+      let H = put_holds (holds_now a) (put_numbered d refl here) (acted a e d).0 p in
       left a e d (words_of _ _ H.long H.each)
 
   -- the trust in itself is put first, and the enrolment then
   pub has_enrolled : {i : ℕ} {vs us : List ℕ} → x ≡ Enrols i → Put (trusts i i) ws vs → Put (enrolled i) vs us → Left ws c k us
   has_enrolled {i} d p q =
-      let H = put_holds (put_holds holds_now (put_numbered d refl (there here)) tt p) (put_numbered d refl here) tt q in
+      let H = put_holds (put_holds (holds_now a) (put_numbered d refl (there here)) tt p) (put_numbered d refl here) tt q in
       left a e d (words_of _ _ H.long H.each ∙ ap encode (put-more (enrolled i) (trusts i i ∷ []) (view ws)))
 
   pub may_cut : {f : Code} → x ≡ Cuts f → MayCut (fact_of f) ws

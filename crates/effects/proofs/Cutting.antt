@@ -1,53 +1,47 @@
 -- Strips masked and sessions swept are a cut: the words are those of the state without f and all that needs it.
-use mathlib.Core.Path.{◌≡◌, refl, ap, sym, ◌∙◌}
-use mathlib.Core.Logic.{◌⊎◌, inl, inr}
-use mathlib.Core.Bool.{Bool, true, false, cond, not, ◌&&◌, and-true, and-false}
-use mathlib.Core.List.{List}
-use Prim.Native.Nat.{ℕ, ◌+◌, ◌*◌, ◌/◌, ◌%◌, ◌<◌, ◌≤◌}
-use native.Mathlib.Omega.{arith}
-use lib.Bits.{bit_and, and_le_l}
-use lib.ListN.{length, get_or}
-use borrow.Author.Tests.{eq-eqb, not-true}
+use Rattle.std.proofs.Common.{◌≡◌, refl, ap, sym, subst, ◌∙◌, ◌⊎◌, inl, inr, Bool, true, false, cond, not, ◌&&◌, List, [], ◌∷◌, ℕ, zero, suc, ◌+◌, ◌*◌, ◌/◌, ◌%◌, ◌<◌, ◌≤◌, arith, bit_and, length, get_or, eq-eqb, Option, unwrap_or}
+use mathlib.Core.Bool.{and-true, and-false}
+use lib.Bits.{and_le_l}
+use borrow.Author.Tests.{not-true}
 use Rattle.bits.specs.Bit.{bit}
-use Rattle.bits.specs.Below.{all_below}
+use Rattle.std.specs.List.{list_all}
 use Rattle.bits.proofs.Bit.{bit_0, bit-and, pack-of, word_ext}
-use Rattle.bits.proofs.Below.{all_intro, all_elim}
 use Rattle.bits.proofs.Booleans.{clash, untrue, same_test, and_both, and_left, and_intro}
 use Rattle.mtas.specs.Fact.{Fact, opened, active, Below16}
 use Rattle.mtas.specs.State.{State, packed, cut, user_of}
 use Rattle.mtas.specs.Law.{In}
-use Rattle.mtas.specs.Layout.{Word, session_user, active_roles, Cell, sixteen, its_user, in_session, cell, state_length, address, word_at, contents, encode, read, tells, view}
+use Rattle.mtas.specs.Layout.{Word, session_user, active_roles, Cell, sixteen, its_user, in_session, cell, address, word_at, contents, encode, read, tells, view}
 use Rattle.mtas.proofs.Address.{word_numbers, word_at-address}
 use Rattle.mtas.proofs.Cells.{Placed, placed, place-numbered}
 use Rattle.mtas.proofs.Facts.{all_in, roots, cut-gone, cut-other, cut-old}
 use Rattle.mtas.proofs.Sessions.{user_cases, user_passes, user_finds}
 use Rattle.mtas.proofs.Words.{words_of, view_says, view_numbered, view_opened, sound-words, word_fits}
-use Rattle.effects.specs.declared.strips.Strip.{Strip}
 use Rattle.effects.specs.declared.sweep.Sweep.{Sweep}
-use Rattle.effects.specs.Strips.{strips, nth, covers, keep, AllLie, spares, Kept}
-use Rattle.effects.specs.Sweeps.{sweep_of, IsSweep, meant, roles_after, reached, session_at, Swept}
+use Rattle.effects.specs.Strips.{Strip, strips, covers, AllLie, spares, Kept}
+use Rattle.effects.specs.Sweeps.{no_sweep, sweep_of, IsSweep, meant, close, roles_kept, roles_after, reached, session_at, Swept}
 use Rattle.effects.specs.Cut.{Apart, MayCut, Cut}
-use Rattle.effects.proofs.Relied.{Hits, Relies, takes}
-use Rattle.effects.proofs.Taken.{Hit, taken}
-use Rattle.effects.proofs.Swept.{Meets, Closes, Drops, with_session, alone, goes, session_goes, role_goes, sweep_ends}
+use Rattle.effects.proofs.Relied.{Hits, Relies, AllRight, right, lie}
+use Rattle.effects.proofs.Taken.{nth, Hit, taken}
+use Rattle.effects.proofs.Swept.{Meets, Closes, Drops, with_session, alone, goes, session_goes, role_goes}
 
 -- ---- strips
 module _ (s : Strip) (k n : ℕ) where
   left_alone : (Hits s k n → ⊥) → spares s k n ≡ true
-  left_alone h = ap not (untrue _ (λ e. let (c, u) = and_both (covers s k) (not (bit (keep s) n)) e in h (record { covered = c; unkept = not-true (bit (keep s) n) u })))
+  left_alone h = ap not (untrue _ (λ e. let (c, u) = and_both (covers s k) (not (bit s.keep n)) e in h (record { covered = c; unkept = not-true (bit s.keep n) u })))
 
   taken_out : Hits s k n → spares s k n ≡ false
   taken_out h = rw (h.covered, h.unkept)
 
-module _ {l : List Strip} {m : ℕ} {ws vs : List ℕ} (x : Kept l m ws vs) (k n : ℕ) where
-  bit_stays : ((t : ℕ) → t < m → Hits (nth l t) k n → ⊥) → bit (get_or vs k 0) n ≡ bit (get_or ws k 0) n
-  bit_stays h = x.each k n ∙ rw (all_intro m (λ t. spares (nth l t) k n) (λ t l. left_alone _ k n (h t l))) (and-true (bit (get_or ws k 0) n))
+-- whether all of them spare it
+module _ (k n : ℕ) where
+  all_spare : (f : Fact) (l : List Strip) → AllRight f l → n < 16 → (Relies f (cell (word_at k)) n → ⊥) → list_all (λ s. spares s k n) l ≡ true
+  all_spare f [] a i h = refl
+  all_spare f (s ∷ l) a i h = and_intro (spares s k n) _ (left_alone s k n (λ e. h (a.0.each k n i e))) (all_spare f l a.1 i h)
 
-  bit_goes : (t : ℕ) → t < m → Hits (nth l t) k n → bit (get_or vs k 0) n ≡ false
-  bit_goes t i h = x.each k n ∙ rw (untrue _ (λ e. clash (all_elim m (λ t. spares (nth l t) k n) e t i) (taken_out _ k n h))) (and-false (bit (get_or ws k 0) n))
-
-  bit_was : bit (get_or vs k 0) n ≡ true → bit (get_or ws k 0) n ≡ true
-  bit_was e = and_left (bit (get_or ws k 0) n) (all_below m (λ t. spares (nth l t) k n)) (sym (x.each k n) ∙ e)
+  one_takes : (l : List Strip) (t : ℕ) → t < length l → Hits (nth l t) k n → list_all (λ s. spares s k n) l ≡ false
+  one_takes [] t i h = absurd (omega arith)
+  one_takes (s ∷ l) zero i h = rw (taken_out s k n h)
+  one_takes (s ∷ l) (suc t) i h = rw (one_takes l t (omega arith) h) (and-false (spares s k n))
 
 -- ---- sessions
 user-word : (m : ℕ) → m < 256 → word_at (session_at m) ≡ session_user (m / 16) (m % 16)
@@ -67,7 +61,7 @@ no_user e d = let z : ◌≡◌ {A = ℕ} 0 1 = cc in omega arith
 no_roles : {c : Cell} {g : ℕ → Fact} {h : ℕ → ℕ → Fact} {i s : ℕ} → c ≡ sixteen g → c ≡ in_session i s h → ⊥
 no_roles e d = let z : ◌≡◌ {A = ℕ} 0 1 = cc in omega arith
 
-module _ {ws ws₂ vs : List ℕ} {f : Fact} (M : MayCut f ws) (x : Kept (strips f) (length (strips f)) ws ws₂) (z : Swept (sweep_of f) (sweep_of f).count ws₂ vs) where
+module _ {ws ws₂ vs : List ℕ} {f : Fact} (M : MayCut f ws) (x : Kept (strips f) ws ws₂) (z : Swept (sweep_of f) (sweep_of f).count ws₂ vs) where
   abbrev st : State
   st = view ws
 
@@ -78,7 +72,7 @@ module _ {ws ws₂ vs : List ℕ} {f : Fact} (M : MayCut f ws) (x : Kept (strips
   narrow k = omega (arith, x.below k, M.lawful.wide k)
 
   unhit : (k n : ℕ) → n < 16 → (Relies f (cell (word_at k)) n → ⊥) → bit (get_or ws₂ k 0) n ≡ bit (get_or ws k 0) n
-  unhit k n l h = bit_stays x k n (λ t m e. h ((takes f M.numbered t m).each k n l e))
+  unhit k n l h = x.each k n ∙ rw (all_spare k n f (strips f) (right f M.numbered) l h) (and-true (bit (get_or ws k 0) n))
 
   -- a word of sixteen facts
   bits : (w : Word) → Below16 (word_numbers w) → (g : ℕ → Fact) → cell w ≡ sixteen g → read vs w ≡ packed gone g
@@ -102,8 +96,11 @@ module _ {ws ws₂ vs : List ℕ} {f : Fact} (M : MayCut f ws) (x : Kept (strips
 
       back : (n : ℕ) → n < 16 → bit (read ws₂ w) n ≡ true → gone.stands (g n) ≡ true
       back n l h =
-          cut-other f st (g n) (λ m. let o = all_in (λ f. Apart f → Hit f (address w) n) (rw e at (taken w n b l)) m M.apart in clash h (bit_goes x (address w) n o.by o.known o.hits))
-          ∙ said n l ∙ bit_was x (address w) n h
+          cut-other f st (g n) (λ m. let o = all_in (λ f. Apart f → Hit f (address w) n) (rw e at (taken w n b l)) m M.apart in clash both.1 (one_takes (address w) n (strips f) o.by o.known o.hits))
+          ∙ said n l ∙ both.0
+        where
+          both : (bit (read ws w) n ≡ true) × (list_all (λ s. spares s (address w) n) (strips f) ≡ true)
+          both = and_both (bit (read ws w) n) _ (sym (x.each (address w) n) ∙ h)
 
   -- the words of the session i/s
   module _ (i s : ℕ) (li : i < 16) (ls : s < 16) where
@@ -121,7 +118,7 @@ module _ {ws ws₂ vs : List ℕ} {f : Fact} (M : MayCut f ws) (x : Kept (strips
 
     -- the session closes
     abbrev shut : Bool
-    shut = reached sw sw.count m && (meant sw u && sw.close)
+    shut = reached sw sw.count m && (meant sw u && close sw)
 
     untouched : (k : ℕ) → ((n : ℕ) → Relies f (cell (word_at k)) n → ⊥) → get_or ws₂ k 0 ≡ get_or ws k 0
     untouched k h = word_ext 16 _ _ (narrow k) (M.lawful.wide k) (λ n l. unhit k n l (h n))
@@ -153,8 +150,8 @@ module _ {ws ws₂ vs : List ℕ} {f : Fact} (M : MayCut f ws) (x : Kept (strips
 
     shut_relies : shut ≡ true → In f (roots (opened i s u))
     shut_relies h =
-        let (p, q) = and_both (reached sw sw.count m) (meant sw u && sw.close) h in
-        let (r, c) = and_both (meant sw u) sw.close q in
+        let (p, q) = and_both (reached sw sw.count m) (meant sw u && close sw) h in
+        let (r, c) = and_both (meant sw u) (close sw) q in
         (goes li ls f M.numbered (meets p r)).session c
 
     closes_shut : Closes i s u f → shut ≡ true
@@ -171,7 +168,7 @@ module _ {ws ws₂ vs : List ℕ} {f : Fact} (M : MayCut f ws) (x : Kept (strips
         go false e (inr q) = none_open (λ v h. let o = its_own v h in omega arith) ∙ sym q
 
     its_user_word : read vs (session_user i s) ≡ user_of gone i s
-    its_user_word = z.users m ∙ rw user_untouched (go (reached sw sw.count m) (meant sw u) sw.close) ∙ sym user_now
+    its_user_word = z.users m ∙ rw user_untouched (go (reached sw sw.count m) (meant sw u) (close sw)) ∙ sym user_now
       where
         go : (p q r : Bool) → cond p (cond (q && r) 65535 u) u ≡ cond (p && (q && r)) 65535 u
         go true q r = refl
@@ -188,38 +185,38 @@ module _ {ws ws₂ vs : List ℕ} {f : Fact} (M : MayCut f ws) (x : Kept (strips
     left = cond (reached sw sw.count m) (roles_after sw u a) a
 
     left_below : left ≤ a
-    left_below = go (reached sw sw.count m) (meant sw u) sw.close
+    left_below = go (reached sw sw.count m) (meant sw u) (close sw)
       where
-        go : (p q r : Bool) → cond p (cond q (cond r 0 (bit_and a sw.keep)) a) a ≤ a
+        go : (p q r : Bool) → cond p (cond q (cond r 0 (bit_and a (roles_kept sw))) a) a ≤ a
         go true true true = omega arith
-        go true true false = and_le_l a sw.keep
+        go true true false = and_le_l a (roles_kept sw)
         go true false r = omega arith
         go false q r = omega arith
 
     left_shut : shut ≡ true → left ≡ 0
     left_shut h =
-        let (p, q) = and_both (reached sw sw.count m) (meant sw u && sw.close) h in
-        let (r, c) = and_both (meant sw u) sw.close q in
+        let (p, q) = and_both (reached sw sw.count m) (meant sw u && close sw) h in
+        let (r, c) = and_both (meant sw u) (close sw) q in
         rw (p, r, c)
 
     -- in an open session that stays open
     module _ (stays : shut ≡ false) (l : u < 16) (n : ℕ) (k : n < 16) where
       left_there : gone.stands (active i s u n) ≡ true → bit left n ≡ true
-      left_there h = go (reached sw sw.count m) refl (meant sw u) refl sw.close refl
+      left_there h = go (reached sw sw.count m) refl (meant sw u) refl (close sw) refl
         where
           had : bit a n ≡ true
           had = sym (role_said l n k) ∙ cut-old f st (active i s u n) h
 
-          kept : reached sw sw.count m ≡ true → meant sw u ≡ true → sw.close ≡ false → bit sw.keep n ≡ true
-          kept p q r = by (bit sw.keep n) refl
+          kept : reached sw sw.count m ≡ true → meant sw u ≡ true → close sw ≡ false → bit (roles_kept sw) n ≡ true
+          kept p q r = by (bit (roles_kept sw) n) refl
             where
-              by : (b : Bool) → bit sw.keep n ≡ b → bit sw.keep n ≡ true
+              by : (b : Bool) → bit (roles_kept sw) n ≡ b → bit (roles_kept sw) n ≡ true
               by true e = e
               by false e = absurd (clash h (cut-gone f st (active i s u n) ((goes li ls f M.numbered (meets p q)).role r n k e)))
 
-          go : (p : Bool) → reached sw sw.count m ≡ p → (q : Bool) → meant sw u ≡ q → (r : Bool) → sw.close ≡ r → bit (cond p (cond q (cond r 0 (bit_and a sw.keep)) a) a) n ≡ true
+          go : (p : Bool) → reached sw sw.count m ≡ p → (q : Bool) → meant sw u ≡ q → (r : Bool) → close sw ≡ r → bit (cond p (cond q (cond r 0 (bit_and a (roles_kept sw))) a) a) n ≡ true
           go true p true q true r = absurd (clash (and_intro _ _ p (and_intro _ _ q r)) stays)
-          go true p true q false r = bit-and a sw.keep n ∙ and_intro _ _ had (kept p q r)
+          go true p true q false r = bit-and a (roles_kept sw) n ∙ and_intro _ _ had (kept p q r)
           go true p false q r d = had
           go false p q d r c = had
 
@@ -227,17 +224,17 @@ module _ {ws ws₂ vs : List ℕ} {f : Fact} (M : MayCut f ws) (x : Kept (strips
       left_back h = cut-other f st (active i s u n) (λ r. out (all_in (λ g. Apart g → Drops i s u n g) (role_goes li ls n k) r M.apart)) ∙ role_said l n k ∙ had
         where
           had : bit a n ≡ true
-          had = go (reached sw sw.count m) (meant sw u) sw.close h
+          had = go (reached sw sw.count m) (meant sw u) (close sw) h
             where
-              go : (p q r : Bool) → bit (cond p (cond q (cond r 0 (bit_and a sw.keep)) a) a) n ≡ true → bit a n ≡ true
+              go : (p q r : Bool) → bit (cond p (cond q (cond r 0 (bit_and a (roles_kept sw))) a) a) n ≡ true → bit a n ≡ true
               go true true true e = absurd (clash e (bit_0 n))
-              go true true false e = and_left (bit a n) (bit sw.keep n) (sym (bit-and a sw.keep n) ∙ e)
+              go true true false e = and_left (bit a n) (bit (roles_kept sw) n) (sym (bit-and a (roles_kept sw) n) ∙ e)
               go true false r e = e
               go false q r e = e
 
           out : Drops i s u n f → ⊥
           out (with_session c) = clash (closes_shut c) stays
-          out (alone c r e) = clash h (rw (c.is_reached, c.is_meant, r) (bit-and a sw.keep n ∙ rw e (and-false (bit a n))))
+          out (alone c r e) = clash h (rw (c.is_reached, c.is_meant, r) (bit-and a (roles_kept sw) n ∙ rw e (and-false (bit a n))))
 
     roles_word_now : read vs (active_roles i s) ≡ packed gone (active i s (user_of gone i s))
     roles_word_now = z.roles m ∙ rw (user_untouched, roles_untouched, user_now) (sym (go shut refl fits))
@@ -266,15 +263,8 @@ module _ {ws ws₂ vs : List ℕ} {f : Fact} (M : MayCut f ws) (x : Kept (strips
 
 -- ---- the function that cuts
 module _ {ws : List ℕ} {f : Fact} (M : MayCut f ws) where
-  pub all_lie : AllLie (length ws) f
-  all_lie = record { each = λ t h. rw M.lawful.long (takes f M.numbered t h).ends }
+  pub all_lie : AllLie (strips f)
+  all_lie = lie f (strips f) (right f M.numbered)
 
-  module _ {ws₂ : List ℕ} (x : Kept (strips f) (length (strips f)) ws ws₂) {sw : Sweep} (i : IsSweep f sw) where
-    pub still_long : length ws₂ ≡ state_length
-    still_long = x.len ∙ M.lawful.long
-
-    pub sweep_fits : sw.first + sw.count ≤ 256
-    sweep_fits = rw i.is (sweep_ends f M.numbered)
-
-    pub has_cut : {vs : List ℕ} → Swept sw sw.count ws₂ vs → Cut f ws vs
-    has_cut z = record { words = cut_words M x (rw i.is at z) }
+  pub has_cut : {o p : Option Sweep} {ws₂ vs : List ℕ} → IsSweep f o → Kept (strips f) ws ws₂ → o ≡ p → Swept (unwrap_or p no_sweep) (unwrap_or p no_sweep).count ws₂ vs → Cut f ws vs
+  has_cut {ws₂ = ws₂} {vs} i x e z = record { words = cut_words M x (subst (λ s. Swept s s.count ws₂ vs) (sym (ap (λ p. unwrap_or p no_sweep) e) ∙ i.is) z) }

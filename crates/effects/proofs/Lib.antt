@@ -1,4 +1,3 @@
-pub mod Rows
 pub mod Masking
 pub mod Sweeping
 pub mod Relied

@@ -1,17 +1,9 @@
 -- A fact written at its place is put: words that hold a state hold then the state with it.
-use mathlib.Core.Path.{◌≡◌, refl, ap, sym, subst, ◌∙◌}
-use mathlib.Core.Logic.{◌⊎◌, inl, inr}
-use mathlib.Core.Bool.{true, false, ◌||◌, or-false}
-use mathlib.Core.List.{List, [], ◌∷◌}
-use Prim.Native.Nat.{ℕ, ◌^◌, ◌<◌}
+use Rattle.std.proofs.Common.{◌≡◌, refl, ap, sym, subst, ◌∙◌, ◌⊎◌, inl, inr, true, false, ◌||◌, List, [], ◌∷◌, ℕ, ◌^◌, ◌<◌, arith, eqb, length, get_or, set, length-set, get_or-set_same, get_or-set_other, eq-eqb, ne_eqb, Option}
+use mathlib.Core.Bool.{or-false}
 use native.Mathlib.Decide.{ℕ_discrete}
-use native.Mathlib.Omega.{arith}
 use lib.Bits.{or_lt}
-use lib.Dec.{eqb}
 use lib.Pow.{pow-lt}
-use lib.ListN.{length, get_or, set, length-set}
-use lib.Seq.{get_or-set_same, get_or-set_other}
-use borrow.Author.Tests.{eq-eqb, ne_eqb}
 use Rattle.bits.specs.Bit.{bit, with_bit}
 use Rattle.bits.proofs.Bit.{bit_with, bit-pack, pack-of, pack_ext, pack-lt}
 use Rattle.bits.proofs.Booleans.{or_right, clash}
@@ -25,8 +17,8 @@ use Rattle.mtas.proofs.Cells.{Says, said-there, Placed, placed, PlaceNumbered, p
 use Rattle.mtas.proofs.Facts.{in_one, put-new, put_cases, put_other, none_above_15}
 use Rattle.mtas.proofs.Sessions.{user_finds}
 use Rattle.facts.specs.declared.Place.{Place as CodePlace}
-use Rattle.facts.specs.Table.{spot, unless, place_of, IsPlace}
-use Rattle.effects.specs.Put.{written, Put}
+use Rattle.facts.specs.Table.{spot, unless, place_of}
+use Rattle.effects.specs.Put.{written, written_if, Put}
 
 -- the words ws hold the state st
 pub record Hold (st : State) (ws : List ℕ) : Type 0 where
@@ -190,7 +182,7 @@ module _ {st : State} {ws : List ℕ} (H : Hold st ws) (f : Fact) where
 -- the same of what the function that puts a fact spares
 pub put_holds : {st : State} {ws vs : List ℕ} {f : Fact} → Hold st ws → Below16 (numbers f) → Ready st (place f) → Put f ws vs → Hold (put (f ∷ []) st) vs
 unfolding place_of
-put_holds {ws = ws} {f = f} H b r p = rw (p.words ∙ ap (λ x. written ws (unless x (spot (place f)))) (none_above_15 (numbers f) b)) (holds_more H f b r)
+put_holds {ws = ws} {f = f} H b r p = rw (p.words ∙ ap (λ x. written_if ws (unless x (spot (place f)))) (none_above_15 (numbers f) b)) (holds_more H f b r)
 
-pub has_put : {ws vs : List ℕ} {f : Fact} {p q : CodePlace} → IsPlace f p → p ≡ q → vs ≡ written ws q → Put f ws vs
-has_put {ws} e d h = record { words = h ∙ ap (written ws) (sym d ∙ e.is) }
+pub has_put : {ws vs : List ℕ} {f : Fact} {o p : Option CodePlace} → o ≡ place_of f → o ≡ p → vs ≡ written_if ws p → Put f ws vs
+has_put {ws} is d h = record { words = h ∙ ap (written_if ws) (sym d ∙ is) }

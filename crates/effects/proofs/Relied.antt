@@ -1,26 +1,19 @@
 -- The table of strips is right: a bit that a strip of f takes is a fact that relies on f. That each is taken stands in Taken.
-use mathlib.Core.Path.{◌≡◌, refl, sym, ◌∙◌}
-use mathlib.Core.Logic.{◌≢◌}
-use mathlib.Core.Bool.{true, false}
-use mathlib.Core.List.{List, [], ◌∷◌}
-use Prim.Native.Nat.{ℕ, zero, suc, ◌+◌, ◌-◌, ◌*◌, ◌/◌, ◌%◌, ◌^◌, ◌<◌, ◌≤◌}
-use native.Mathlib.Omega.{arith}
-use lib.ListN.{length}
+use Rattle.std.proofs.Common.{◌≡◌, refl, sym, ◌∙◌, ◌≢◌, true, false, List, [], ◌∷◌, ℕ, ◌+◌, ◌-◌, ◌*◌, ◌/◌, ◌%◌, ◌^◌, ◌<◌, arith, eq-eqb, eqb-true}
 use lib.Pow.{pow-lt}
-use borrow.Author.Tests.{eq-eqb, eqb-true, not-false}
+use borrow.Author.Tests.{not-false}
 use Rattle.bits.specs.Bit.{bit}
 use Rattle.bits.proofs.Bit.{bit_not, bit-pow}
-use Rattle.bits.proofs.Stride.{run_out, column_out}
+use Rattle.bits.proofs.Stride.{stride_out}
 use Rattle.mtas.specs.Fact.{Fact, enrolled, trusts, user, role, permission, public, holds, granted, attached, opened, active, numbers, Below16}
 use Rattle.mtas.specs.Needs.{exposed}
 use Rattle.mtas.specs.Law.{In, here, there}
-use Rattle.mtas.specs.Layout.{Word, enrolled_issuers, trusted, users, roles, permissions, held, holders, seniors, public_roles, Cell, sixteen, its_user, in_session, cell, state_length, address, word_at}
+use Rattle.mtas.specs.Layout.{Word, enrolled_issuers, trusted, users, roles, permissions, held, holders, seniors, public_roles, Cell, sixteen, its_user, in_session, cell, address, word_at}
 use Rattle.mtas.proofs.Address.{word_numbers, address_below, word_at-address}
 use Rattle.mtas.proofs.Exposed.{public_in}
 use Rattle.mtas.proofs.Facts.{roots}
-use Rattle.effects.specs.declared.strips.Strip.{Strip}
-use Rattle.effects.specs.declared.strips.Strip.TheVariants as strip
-use Rattle.effects.specs.Strips.{strips, nth, covers, keep, Ends}
+use Rattle.effects.specs.Strips as strip
+use Rattle.effects.specs.Strips.{Strip, strips, covers, Lies, AllLie}
 
 -- ---- the mask of one bit
 module _ {r : ℕ} (l : r < 16) where
@@ -33,7 +26,7 @@ module _ {r : ℕ} (l : r < 16) where
 -- ---- what a strip takes
 pub record Hits (s : Strip) (k n : ℕ) : Type 0 where
   pub covered : covers s k ≡ true
-  pub unkept : bit (keep s) n ≡ false
+  pub unkept : bit s.keep n ≡ false
 
 -- the fact of bit n relies on f; no strip takes a session's words
 abbrev pub Relies : Fact → Cell → ℕ → Type 0
@@ -42,7 +35,7 @@ Relies f (its_user i s) n = ⊥
 Relies f (in_session i s g) n = ⊥
 
 pub record Right (f : Fact) (s : Strip) : Type 0 where
-  pub ends : Ends state_length s
+  pub lies : Lies s
   pub each : (k n : ℕ) → n < 16 → Hits s k n → Relies f (cell (word_at k)) n
 
 -- the bits of a word that aren't kept rely on f: all of them, or one
@@ -60,42 +53,28 @@ module _ {f : Fact} where
   at_word : (w : Word) (k n : ℕ) {m : ℕ} → Below16 (word_numbers w) → k ≡ address w → Loses f w m → n < 16 → bit m n ≡ false → Relies f (cell (word_at k)) n
   at_word w k n b e h l u = rw (e, word_at-address w b) (h.each n l u)
 
-  right_word : (w : Word) {m : ℕ} → Below16 (word_numbers w) → Loses f w m → Right f (strip.Word (address w) m)
-  right_word w b h = record {
-    ends = address_below w b;
+  right_words : {step from c m : ℕ} → Lies (record { step = step; from = from; count = c; keep = m }) → (words : ℕ → Word) → ((t : ℕ) → t < c → Below16 (word_numbers (words t)) × (address (words t) ≡ from + step * t)) → ((t : ℕ) → t < c → Loses f (words t) m) → Right f (record { step = step; from = from; count = c; keep = m })
+  right_words {step} {from} {c} lies words p h = record {
+    lies = lies;
     each = λ k n l e.
-        let o = run_out (address w) 1 k e.covered in
-        at_word w k n b (omega arith) h l e.unkept;
+        let (t, i, q) = stride_out from c k step e.covered in
+        let (b, a) = p t i in
+        at_word (words t) k n b (q ∙ sym a) (h t i) l e.unkept;
   }
 
-  right_run : {from c : ℕ} → from + c ≤ state_length → (words : ℕ → Word) {m : ℕ} → ((t : ℕ) → t < c → Below16 (word_numbers (words t)) × (address (words t) ≡ from + t)) → ((t : ℕ) → t < c → Loses f (words t) m) → Right f (strip.Run from c m)
-  right_run {from} {c} ends words p h = record {
-    ends = ends;
-    each = λ k n l e.
-        let o = run_out from c k e.covered in
-        let (b, a) = p (k - from) (omega arith) in
-        at_word (words (k - from)) k n b (omega arith) (h (k - from) (omega arith)) l e.unkept;
-  }
+  right_word : (w : Word) {m : ℕ} → Below16 (word_numbers w) → Loses f w m → Right f (strip.word (address w) m)
+  right_word w b h = right_words (let l = address_below w b in omega arith) (λ t. w) (λ t l. (b, omega arith)) (λ t l. h)
 
-  right_column : {from c : ℕ} → from + 16 * c ≤ state_length + 15 → (words : ℕ → Word) {m : ℕ} → ((t : ℕ) → t < c → Below16 (word_numbers (words t)) × (address (words t) ≡ from + 16 * t)) → ((t : ℕ) → t < c → Loses f (words t) m) → Right f (strip.Column from c m)
-  right_column {from} {c} ends words p h = record {
-    ends = ends;
-    each = λ k n l e.
-        let o = column_out from c k e.covered in
-        let (b, a) = p ((k - from) / 16) (omega arith) in
-        at_word (words ((k - from) / 16)) k n b (omega arith) (h ((k - from) / 16) (omega arith)) l e.unkept;
-  }
-
-abbrev AllRight : Fact → List Strip → Type 0
+abbrev pub AllRight : Fact → List Strip → Type 0
 AllRight f [] = Unit
 AllRight f (s ∷ l) = Right f s × AllRight f l
 
 -- what each strip of a fact takes relies on it
-right : (f : Fact) → Below16 (numbers f) → AllRight f (strips f)
+pub right : (f : Fact) → Below16 (numbers f) → AllRight f (strips f)
 right (enrolled i) h = (
   right_word enrolled_issuers tt (one_bit (omega arith) here),
   (
-    right_run (omega arith) trusted (λ t l. omega arith) (λ t l. one_bit (omega arith) (search (here, there))),
+    right_words (omega arith) trusted (λ t l. omega arith) (λ t l. one_bit (omega arith) (search (here, there))),
     (
       right_word (trusted i) (omega arith) (all_bits (λ n. there here)),
       (
@@ -105,15 +84,15 @@ right (enrolled i) h = (
           (
             right_word (permissions i) (omega arith) (all_bits (λ n. there here)),
             (
-              right_run (omega arith) (held i) (λ t l. omega arith) (λ t l. all_bits (λ n. search (here, there))),
+              right_words (omega arith) (held i) (λ t l. omega arith) (λ t l. all_bits (λ n. search (here, there))),
               (
-                right_run (omega arith) (λ t. holders i (t / 16) (t % 16)) (λ t l. omega arith) (λ t l. all_bits (λ n. search (here, there) depth 9)),
+                right_words (omega arith) (λ t. holders i (t / 16) (t % 16)) (λ t l. omega arith) (λ t l. all_bits (λ n. search (here, there) depth 9)),
                 (
-                  right_column (omega arith) (λ t. holders (t / 16) (t % 16) i) (λ t l. omega arith) (λ t l. all_bits (λ n. search (here, there) depth 9)),
+                  right_words (omega arith) (λ t. holders (t / 16) (t % 16) i) (λ t l. omega arith) (λ t l. all_bits (λ n. search (here, there) depth 9)),
                   (
-                    right_run (omega arith) (λ t. seniors i (t / 16) (t % 16)) (λ t l. omega arith) (λ t l. all_bits (λ n. search (here, there) depth 9)),
+                    right_words (omega arith) (λ t. seniors i (t / 16) (t % 16)) (λ t l. omega arith) (λ t l. all_bits (λ n. search (here, there) depth 9)),
                     (
-                      right_column (omega arith) (λ t. seniors (t / 16) (t % 16) i) (λ t l. omega arith) (λ t l. all_bits (λ n. search (here, there) depth 9)),
+                      right_words (omega arith) (λ t. seniors (t / 16) (t % 16) i) (λ t l. omega arith) (λ t l. all_bits (λ n. search (here, there) depth 9)),
                       (right_word (public_roles i) (omega arith) (all_bits (λ n. there (there here))), tt),
                     ),
                   ),
@@ -129,21 +108,21 @@ right (enrolled i) h = (
 right (trusts i j) h = (
   right_word (trusted i) (omega arith) (one_bit (omega arith) here),
   (
-    right_column (omega arith) (λ t. holders j t i) (λ t l. omega arith) (λ t l. all_bits (λ n. search (here, there))),
-    (right_column (omega arith) (λ t. seniors j t i) (λ t l. omega arith) (λ t l. all_bits (λ n. search (here, there))), tt),
+    right_words (omega arith) (λ t. holders j t i) (λ t l. omega arith) (λ t l. all_bits (λ n. search (here, there))),
+    (right_words (omega arith) (λ t. seniors j t i) (λ t l. omega arith) (λ t l. all_bits (λ n. search (here, there))), tt),
   ),
 )
 right (user i u) h = (right_word (users i) (omega arith) (one_bit (omega arith) here), (right_word (held i u) (omega arith) (all_bits (λ n. there here)), tt))
 right (role i r) h = (
   right_word (roles i) (omega arith) (one_bit (omega arith) here),
   (
-    right_run (omega arith) (held i) (λ t l. omega arith) (λ t l. one_bit (omega arith) (there (there here))),
+    right_words (omega arith) (held i) (λ t l. omega arith) (λ t l. one_bit (omega arith) (there (there here))),
     (
-      right_column (omega arith) (λ t. holders (t / 16) (t % 16) i) (λ t l. omega arith) (λ t l. one_bit (omega arith) (there (there here))),
+      right_words (omega arith) (λ t. holders (t / 16) (t % 16) i) (λ t l. omega arith) (λ t l. one_bit (omega arith) (there (there here))),
       (
-        right_column (omega arith) (λ t. seniors (t / 16) (t % 16) i) (λ t l. omega arith) (λ t l. one_bit (omega arith) (there (there here))),
+        right_words (omega arith) (λ t. seniors (t / 16) (t % 16) i) (λ t l. omega arith) (λ t l. one_bit (omega arith) (there (there here))),
         (
-          right_run (omega arith) (seniors i r) (λ t l. omega arith) (λ t l. all_bits (λ n. there here)),
+          right_words (omega arith) (seniors i r) (λ t l. omega arith) (λ t l. all_bits (λ n. there here)),
           (right_word (public_roles i) (omega arith) (one_bit (omega arith) (there here)), tt),
         ),
       ),
@@ -152,17 +131,17 @@ right (role i r) h = (
 )
 right (permission i p) h = (
   right_word (permissions i) (omega arith) (one_bit (omega arith) here),
-  (right_run (omega arith) (holders i p) (λ t l. omega arith) (λ t l. all_bits (λ n. there here)), tt),
+  (right_words (omega arith) (holders i p) (λ t l. omega arith) (λ t l. all_bits (λ n. there here)), tt),
 )
 right (public i r) h = (
   right_word (public_roles i) (omega arith) (one_bit (omega arith) here),
   (
-    right_column (omega arith) (λ t. holders (t / 16) (t % 16) i) (λ t l. omega arith) (λ t l. one_bit (omega arith) (used (t / 16) (λ e. omega arith))),
+    right_words (omega arith) (λ t. holders (t / 16) (t % 16) i) (λ t l. omega arith) (λ t l. one_bit (omega arith) (used (t / 16) (λ e. omega arith))),
     (
-      right_column (omega arith) (λ t. holders (i + 1 + t / 16) (t % 16) i) (λ t l. omega arith) (λ t l. one_bit (omega arith) (used (i + 1 + t / 16) (λ e. omega arith))),
+      right_words (omega arith) (λ t. holders (i + 1 + t / 16) (t % 16) i) (λ t l. omega arith) (λ t l. one_bit (omega arith) (used (i + 1 + t / 16) (λ e. omega arith))),
       (
-        right_column (omega arith) (λ t. seniors (t / 16) (t % 16) i) (λ t l. omega arith) (λ t l. one_bit (omega arith) (used (t / 16) (λ e. omega arith))),
-        (right_column (omega arith) (λ t. seniors (i + 1 + t / 16) (t % 16) i) (λ t l. omega arith) (λ t l. one_bit (omega arith) (used (i + 1 + t / 16) (λ e. omega arith))), tt),
+        right_words (omega arith) (λ t. seniors (t / 16) (t % 16) i) (λ t l. omega arith) (λ t l. one_bit (omega arith) (used (t / 16) (λ e. omega arith))),
+        (right_words (omega arith) (λ t. seniors (i + 1 + t / 16) (t % 16) i) (λ t l. omega arith) (λ t l. one_bit (omega arith) (used (i + 1 + t / 16) (λ e. omega arith))), tt),
       ),
     ),
   ),
@@ -177,10 +156,6 @@ right (attached j q i r) h = (right_word (seniors j q i) (omega arith) (one_bit 
 right (opened i s u) h = tt
 right (active i s u r) h = tt
 
-nth_right : (f : Fact) (l : List Strip) → AllRight f l → (x : ℕ) → x < length l → Right f (nth l x)
-nth_right f [] a x h = absurd (omega arith)
-nth_right f (s ∷ l) a zero h = a.0
-nth_right f (s ∷ l) a (suc x) h = nth_right f l a.1 x (omega arith)
-
-pub takes : (f : Fact) → Below16 (numbers f) → (x : ℕ) → x < length (strips f) → Right f (nth (strips f) x)
-takes f h = nth_right f (strips f) (right f h)
+pub lie : (f : Fact) (l : List Strip) → AllRight f l → AllLie l
+lie f [] a = tt
+lie f (s ∷ l) a = (a.0.lies, lie f l a.1)

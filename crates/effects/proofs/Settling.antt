@@ -1,11 +1,5 @@
 -- Words of a state, settled, are the words of the settled state.
-use mathlib.Core.Path.{◌≡◌, refl, ap, ap₂, sym, ◌∙◌}
-use mathlib.Core.Logic.{◌⊎◌, inl, inr}
-use mathlib.Core.Bool.{◌&&◌}
-use mathlib.Core.List.{List}
-use Prim.Native.Nat.{ℕ, ◌<◌}
-use native.Mathlib.Omega.{arith}
-use lib.ListN.{get_or}
+use Rattle.std.proofs.Common.{◌≡◌, refl, ap, ap₂, sym, ◌∙◌, ◌⊎◌, inl, inr, ◌&&◌, List, ℕ, ◌<◌, arith, get_or}
 use Rattle.bits.specs.Bit.{bit}
 use Rattle.bits.proofs.Below.{find_ext}
 use Rattle.bits.proofs.Bit.{bit-pack, pack_ext, pack-of}

@@ -1,16 +1,12 @@
 -- The table of sweeps is right: a session that the sweep of f closes, or a role that it drops there, relies on f, and each that relies on f goes.
-use mathlib.Core.Path.{◌≡◌, refl}
-use mathlib.Core.Bool.{true, false}
-use Prim.Native.Nat.{ℕ, ◌+◌, ◌*◌, ◌<◌, ◌≤◌}
-use native.Mathlib.Omega.{arith}
-use borrow.Author.Tests.{eqb-true, eq-eqb}
+use Rattle.std.proofs.Common.{◌≡◌, refl, true, false, ℕ, ◌+◌, ◌*◌, ◌<◌, ◌≤◌, arith, eqb-true, eq-eqb}
 use Rattle.bits.specs.Bit.{bit}
 use Rattle.bits.proofs.Booleans.{clash}
 use Rattle.mtas.specs.Fact.{Fact, enrolled, trusts, user, role, permission, public, holds, granted, attached, opened, active, numbers, Below16}
 use Rattle.mtas.specs.Law.{In, here, there}
 use Rattle.mtas.proofs.Facts.{All, same_refl, roots}
 use Rattle.effects.specs.declared.sweep.Sweep.{Sweep}
-use Rattle.effects.specs.Sweeps.{sweep_of, meant, reached}
+use Rattle.effects.specs.Sweeps.{sweep_of, meant, close, roles_kept, reached}
 use Rattle.effects.specs.Cut.{Apart}
 use Rattle.effects.proofs.Sweeping.{reached_in, reached_out}
 use Rattle.effects.proofs.Relied.{bit_dropped, only_bit}
@@ -22,23 +18,23 @@ pub record Meets (sw : Sweep) (i s u : ℕ) : Type 0 where
 
 -- ---- what goes relies on f: a session that closes, or a role that is dropped
 pub record Goes (i s u : ℕ) (f : Fact) : Type 0 where
-  pub session : (sweep_of f).close ≡ true → In f (roots (opened i s u))
-  pub role : (sweep_of f).close ≡ false → (n : ℕ) → n < 16 → bit (sweep_of f).keep n ≡ false → In f (roots (active i s u n))
+  pub session : close (sweep_of f) ≡ true → In f (roots (opened i s u))
+  pub role : close (sweep_of f) ≡ false → (n : ℕ) → n < 16 → bit (roles_kept (sweep_of f)) n ≡ false → In f (roots (active i s u n))
 
 pub record Closes (i s u : ℕ) (f : Fact) : Type 0 where
   pub meets : Meets (sweep_of f) i s u
-  pub closes : (sweep_of f).close ≡ true
+  pub closes : close (sweep_of f) ≡ true
 
 -- a role goes with its session, or is dropped there
 pub data Drops (i s u n : ℕ) (f : Fact) : Type 0 where
   with_session : Closes i s u f → Drops i s u n f
-  alone : Meets (sweep_of f) i s u → (sweep_of f).close ≡ false → bit (sweep_of f).keep n ≡ false → Drops i s u n f
+  alone : Meets (sweep_of f) i s u → close (sweep_of f) ≡ false → bit (roles_kept (sweep_of f)) n ≡ false → Drops i s u n f
 
 module _ {i s u : ℕ} (li : i < 16) (ls : s < 16) where
-  closing_goes : {f : Fact} → (sweep_of f).close ≡ true → In f (roots (opened i s u)) → Goes i s u f
+  closing_goes : {f : Fact} → close (sweep_of f) ≡ true → In f (roots (opened i s u)) → Goes i s u f
   closing_goes c h = record { session = λ _. h; role = λ d. absurd (clash c d) }
 
-  dropping_goes : {f : Fact} → (sweep_of f).close ≡ false → ((n : ℕ) → n < 16 → bit (sweep_of f).keep n ≡ false → In f (roots (active i s u n))) → Goes i s u f
+  dropping_goes : {f : Fact} → close (sweep_of f) ≡ false → ((n : ℕ) → n < 16 → bit (roles_kept (sweep_of f)) n ≡ false → In f (roots (active i s u n))) → Goes i s u f
   dropping_goes d h = record { session = λ c. absurd (clash c d); role = λ _. h }
 
   -- the first session, and how many: none, one, or an issuer's sixteen
@@ -99,17 +95,3 @@ module _ {i s u : ℕ} (li : i < 16) (ls : s < 16) where
       ),
     ),
   )
-
--- a sweep ends with the sessions
-pub sweep_ends : (f : Fact) → Below16 (numbers f) → (sweep_of f).first + (sweep_of f).count ≤ 256
-sweep_ends (enrolled i) h = omega arith
-sweep_ends (trusts i j) h = omega arith
-sweep_ends (user i u) h = omega arith
-sweep_ends (role i r) h = omega arith
-sweep_ends (permission i p) h = omega arith
-sweep_ends (public i r) h = omega arith
-sweep_ends (holds i u r) h = omega arith
-sweep_ends (granted j p i r) h = omega arith
-sweep_ends (attached j q i r) h = omega arith
-sweep_ends (opened i s u) h = omega arith
-sweep_ends (active i s u r) h = omega arith

@@ -1,26 +1,24 @@
 -- Each bit of a fact that relies on f is taken by a strip of f.
-use mathlib.Core.Path.{◌≡◌, refl}
-use mathlib.Core.Logic.{◌⊎◌, inl, inr, ◌≢◌}
-use mathlib.Core.Bool.{false}
-use mathlib.Core.List.{◌∷◌}
-use Prim.Native.Nat.{ℕ, ◌+◌, ◌-◌, ◌*◌, ◌^◌, ◌<◌, ◌≤◌}
-use native.Mathlib.Omega.{arith}
-use lib.ListN.{length}
+use Rattle.std.proofs.Common.{◌≡◌, ◌⊎◌, inl, inr, ◌≢◌, false, List, ◌∷◌, ℕ, ◌+◌, ◌-◌, ◌*◌, ◌^◌, ◌<◌, ◌≤◌, arith, length, get_or}
 use borrow.Author.Tests.{eqb-false}
 use Rattle.bits.specs.Bit.{bit}
 use Rattle.bits.proofs.Bit.{bit_0}
 use Rattle.bits.proofs.Booleans.{clash, below_or_not}
-use Rattle.bits.proofs.Stride.{run_in, column_in}
+use Rattle.bits.proofs.Stride.{stride_in}
 use Rattle.mtas.specs.Fact.{Fact, enrolled, trusts, role, public, Below16}
 use Rattle.mtas.specs.Needs.{enrolment, exposed}
 use Rattle.mtas.specs.Layout.{Word, enrolled_issuers, trusted, users, roles, permissions, held, holders, seniors, session_user, active_roles, public_roles, Cell, sixteen, its_user, in_session, cell, address}
 use Rattle.mtas.proofs.Address.{word_numbers}
 use Rattle.mtas.proofs.Exposed.{exposed_has}
 use Rattle.mtas.proofs.Facts.{All, same_refl, roots}
-use Rattle.effects.specs.declared.strips.Strip.TheVariants as strip
-use Rattle.effects.specs.Strips.{strips, nth}
+use Rattle.effects.specs.Strips as strip
+use Rattle.effects.specs.Strips.{Strip, strips}
 use Rattle.effects.specs.Cut.{Apart}
 use Rattle.effects.proofs.Relied.{bit_dropped, Hits}
+
+-- no strip takes a bit
+abbrev pub nth : List Strip → ℕ → Strip
+nth l k = get_or l k (strip.word 0 65535)
 
 pub record Hit (f : Fact) (k n : ℕ) : Type 0 where
   pub by : ℕ
@@ -41,14 +39,11 @@ this : {n : ℕ} → n < 16 → Unkept (65535 - 2 ^ n) n
 this l = record { is = bit_dropped l }
 
 module _ {m n : ℕ} (d : Unkept m n) where
-  hit_word : {j : ℕ} → Hits (strip.Word j m) j n
-  hit_word {j} = record { covered = run_in j 1 j (omega arith) (omega arith); unkept = d.is }
+  hit_at : {step from c k : ℕ} (t : ℕ) → t < c → k ≡ from + step * t → Hits (record { step = step; from = from; count = c; keep = m }) k n
+  hit_at {step} {from} {c} {k} t l e = record { covered = stride_in from c k step t l e; unkept = d.is }
 
-  hit_run : {k from c : ℕ} (t : ℕ) → t < c → k ≡ from + t → Hits (strip.Run from c m) k n
-  hit_run {k} {from} {c} t l e = record { covered = run_in from c k (omega arith) (omega arith); unkept = d.is }
-
-  hit_column : {k from c : ℕ} (t : ℕ) → t < c → k ≡ from + 16 * t → Hits (strip.Column from c m) k n
-  hit_column {k} {from} {c} t l e = record { covered = column_in from c k (omega arith) (omega arith) (omega arith); unkept = d.is }
+  hit_word : {k : ℕ} → Hits (strip.word k m) k n
+  hit_word = hit_at 0 (omega arith) (omega arith)
 
 -- each root of the fact of bit n takes it
 abbrev pub Taken : Word → Cell → ℕ → Type 0
@@ -83,7 +78,7 @@ taken (trusted i) n h l = (
     λ _. hit 2 (omega arith) (hit_word none),
     (
       itself,
-      (λ _. hit 1 (omega arith) (hit_run (this l) i (omega arith) refl), (itself, tt)),
+      (λ _. hit 1 (omega arith) (hit_at (this l) i (omega arith) (omega arith)), (itself, tt)),
     ),
   ),
 )
@@ -95,33 +90,33 @@ taken (held i u) n h l = (
   (
     λ _. hit 1 (omega arith) (hit_word none),
     (
-      λ _. hit 1 (omega arith) (hit_run (this l) u (omega arith) (omega arith)),
-      (λ _. hit 6 (omega arith) (hit_run none u (omega arith) (omega arith)), (itself, tt)),
+      λ _. hit 1 (omega arith) (hit_at (this l) u (omega arith) (omega arith)),
+      (λ _. hit 6 (omega arith) (hit_at none u (omega arith) (omega arith)), (itself, tt)),
     ),
   ),
 )
 taken (holders j p i) n h l = (
   λ _. hit 0 (omega arith) (hit_word (this l)),
   (
-    λ _. hit 1 (omega arith) (hit_run none i (omega arith) (omega arith)),
-    on-role j i n (hit 2 (omega arith) (hit_column (this l) (16 * j + p) (omega arith) (omega arith)))
-        (λ b. hit 1 (omega arith) (hit_column (this l) (16 * j + p) (omega arith) (omega arith)))
-        (λ b. hit 2 (omega arith) (hit_column (this l) (16 * (j - i - 1) + p) (omega arith) (omega arith)))
-        (hit 1 (omega arith) (hit_column none p (omega arith) (omega arith)))
-        (hit 8 (omega arith) (hit_column none (16 * j + p) (omega arith) (omega arith)))
-        (hit 7 (omega arith) (hit_run none (16 * p + i) (omega arith) (omega arith))),
+    λ _. hit 1 (omega arith) (hit_at none i (omega arith) (omega arith)),
+    on-role j i n (hit 2 (omega arith) (hit_at (this l) (16 * j + p) (omega arith) (omega arith)))
+        (λ b. hit 1 (omega arith) (hit_at (this l) (16 * j + p) (omega arith) (omega arith)))
+        (λ b. hit 2 (omega arith) (hit_at (this l) (16 * (j - i - 1) + p) (omega arith) (omega arith)))
+        (hit 1 (omega arith) (hit_at none p (omega arith) (omega arith)))
+        (hit 8 (omega arith) (hit_at none (16 * j + p) (omega arith) (omega arith)))
+        (hit 7 (omega arith) (hit_at none (16 * p + i) (omega arith) (omega arith))),
   ),
 )
 taken (seniors j q i) n h l = (
   λ _. hit 0 (omega arith) (hit_word (this l)),
   (
-    λ _. hit 4 (omega arith) (hit_run none i (omega arith) (omega arith)),
-    on-role j i n (hit 3 (omega arith) (hit_column (this l) (16 * j + q) (omega arith) (omega arith)))
-        (λ b. hit 3 (omega arith) (hit_column (this l) (16 * j + q) (omega arith) (omega arith)))
-        (λ b. hit 4 (omega arith) (hit_column (this l) (16 * (j - i - 1) + q) (omega arith) (omega arith)))
-        (hit 2 (omega arith) (hit_column none q (omega arith) (omega arith)))
-        (hit 10 (omega arith) (hit_column none (16 * j + q) (omega arith) (omega arith)))
-        (hit 9 (omega arith) (hit_run none (16 * q + i) (omega arith) (omega arith))),
+    λ _. hit 4 (omega arith) (hit_at none i (omega arith) (omega arith)),
+    on-role j i n (hit 3 (omega arith) (hit_at (this l) (16 * j + q) (omega arith) (omega arith)))
+        (λ b. hit 3 (omega arith) (hit_at (this l) (16 * j + q) (omega arith) (omega arith)))
+        (λ b. hit 4 (omega arith) (hit_at (this l) (16 * (j - i - 1) + q) (omega arith) (omega arith)))
+        (hit 2 (omega arith) (hit_at none q (omega arith) (omega arith)))
+        (hit 10 (omega arith) (hit_at none (16 * j + q) (omega arith) (omega arith)))
+        (hit 9 (omega arith) (hit_at none (16 * q + i) (omega arith) (omega arith))),
   ),
 )
 taken (session_user i s) n h l = tt

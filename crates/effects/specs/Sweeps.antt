@@ -1,50 +1,58 @@
 -- What happens to sessions where a fact is cut.
-use Rattle.std.specs.Prelude.{◌≡◌, Bool, true, false, cond, ◌&&◌, ◌||◌, List, ℕ, ◌+◌, ◌-◌, ◌*◌, ◌^◌, ◌<◌, eqb, leb, ltb, length, get_or, set}
+use Rattle.std.specs.Prelude.{◌≡◌, Bool, true, cond, ◌&&◌, List, Option, Some, None, is_none, unwrap_or, ℕ, ◌+◌, ◌-◌, ◌*◌, ◌^◌, ◌<◌, eqb, leb, ltb, length, get_or, set}
 use Rattle.std.specs.Int.Bits.{bit_and}
 use Rattle.mtas.specs.Fact.{Fact, enrolled, trusts, user, role, permission, public, holds, granted, attached, opened, active}
 use Rattle.mtas.specs.Layout.{sessions_at}
 use Rattle.effects.specs.declared.sweep.Sweep.{Sweep}
 
-abbrev pub closing : ℕ → ℕ → Bool → ℕ → Sweep
-closing m n a u = record { first = m; count = n; anyone = a; user = u; close = true; keep = 0 }
+abbrev pub closing : ℕ → ℕ → Option ℕ → Sweep
+closing m n o = record { first = m; count = n; user = o; keep = None }
 
-abbrev pub dropping : ℕ → ℕ → Bool → ℕ → ℕ → Sweep
-dropping m n a u r = record { first = m; count = n; anyone = a; user = u; close = false; keep = 65535 - 2 ^ r }
+abbrev pub dropping : ℕ → ℕ → Option ℕ → ℕ → Sweep
+dropping m n o r = record { first = m; count = n; user = o; keep = Some (65535 - 2 ^ r) }
 
 abbrev pub no_sweep : Sweep
-no_sweep = closing 0 0 true 0
+no_sweep = closing 0 0 None
 
 -- what a fact and all that needs it are to sessions; what loses its reach is dropped by settling
 abbrev pub sweep_of : Fact → Sweep
-sweep_of (enrolled i) = closing (16 * i) 16 true 0
+sweep_of (enrolled i) = closing (16 * i) 16 None
 sweep_of (trusts i j) = no_sweep
-sweep_of (user i u) = closing (16 * i) 16 false u
-sweep_of (role i r) = dropping (16 * i) 16 true 0 r
+sweep_of (user i u) = closing (16 * i) 16 (Some u)
+sweep_of (role i r) = dropping (16 * i) 16 None r
 sweep_of (permission i p) = no_sweep
 sweep_of (public i r) = no_sweep
 sweep_of (holds i u r) = no_sweep
 sweep_of (granted j p i r) = no_sweep
 sweep_of (attached j q i r) = no_sweep
-sweep_of (opened i s u) = closing (16 * i + s) 1 false u
-sweep_of (active i s u r) = dropping (16 * i + s) 1 false u r
+sweep_of (opened i s u) = closing (16 * i + s) 1 (Some u)
+sweep_of (active i s u r) = dropping (16 * i + s) 1 (Some u) r
 
-pub record IsSweep (f : Fact) (sw : Sweep) : Type 0 where
-  pub is : sw ≡ sweep_of f
+-- o: the sweep of f, or none where it has no sessions
+pub record IsSweep (f : Fact) (o : Option Sweep) : Type 0 where
+  pub is : unwrap_or o no_sweep ≡ sweep_of f
+
+-- a session of the user u is one of those of this user, or of anyone
+abbrev pub of_user : Option ℕ → ℕ → Bool
+of_user None u = true
+of_user (Some v) u = eqb u v
 
 -- a session of this user is one of the sweep's
 abbrev pub meant : Sweep → ℕ → Bool
-meant sw u = sw.anyone || eqb u sw.user
+meant sw u = of_user sw.user u
+
+-- its sessions close, or keep these roles
+abbrev pub close : Sweep → Bool
+close sw = is_none sw.keep
+
+abbrev pub roles_kept : Sweep → ℕ
+roles_kept sw = unwrap_or sw.keep 0
 
 abbrev pub user_after : Sweep → ℕ → ℕ
-user_after sw u = cond (meant sw u && sw.close) 65535 u
+user_after sw u = cond (meant sw u && close sw) 65535 u
 
 abbrev pub roles_after : Sweep → ℕ → ℕ → ℕ
-roles_after sw u a = cond (meant sw u) (cond sw.close 0 (bit_and a sw.keep)) a
-
--- what becomes of a session's two words
-pub record SweptPair (sw : Sweep) (u a v b : ℕ) : Type 0 where
-  pub user : v ≡ user_after sw u
-  pub roles : b ≡ roles_after sw u a
+roles_after sw u a = cond (meant sw u) (cond (close sw) 0 (bit_and a (roles_kept sw))) a
 
 -- where the words of the session m begin
 abbrev pub session_at : ℕ → ℕ

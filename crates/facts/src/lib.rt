@@ -1,10 +1,21 @@
 // The facts of a state as data, where its words say each, and whether it stands.
 #![tactic(auto)]
 
-ghost use Rattle.std.specs.Prelude.{◌≡◌, [], ◌∷◌, length};
-ghost use Rattle.mtas.specs.Layout.{state_length, view};
-ghost use Rattle.mtas.specs.LawTest.{LawfulWords};
-ghost use Rattle.facts.specs.Table.{fact_of, Above, Unless, IsPlace, UserOf};
+ghost use Rattle.std.specs.Prelude.{◌≡◌, [], ◌∷◌, true};
+ghost use Rattle.mtas.specs.Fact.{above_15};
+ghost use Rattle.mtas.specs.State.{user_of};
+ghost use Rattle.mtas.specs.Layout.{view};
+ghost use Rattle.mtas.specs.LawTest.{lawful_words};
+ghost use Rattle.facts.specs.Table.{fact_of, unless, place_of, says_at, Inside};
+
+use layout::State;
+
+// The words of a lawful state, lent.
+#[derive(Clone, Copy)]
+pub struct Lawful<'a> {
+    pub words: &'a State,
+    pub ghost lawful: { lawful_words words.now ≡ true },
+}
 
 // Users have sixteen bits, since a closed session's is 65535.
 #[derive(Clone, Copy)]
@@ -22,11 +33,9 @@ pub enum Fact {
     Active(u8, u8, u16, u8),
 }
 
-// Where a fact is said: nowhere, for one with a number above 15; a bit of a word; a word that is a number;
-// a bit of the second word while the first is a number.
+// Where a fact is said: a bit of a word; a word that is a number; a bit of the second word while the first is a number.
 #[derive(Clone, Copy)]
 pub enum Place {
-    Nowhere,
     Bit(usize, u8),
     Number(usize, u16),
     While(usize, u16, usize, u8),
@@ -34,32 +43,22 @@ pub enum Place {
 
 // Whether a number is above 15.
 pub fn above_15(a: u8, b: u8, c: u16, d: u8) -> bool
-    ensures { Above (a ∷ b ∷ c ∷ d ∷ []) result }
+    ensures { result ≡ above_15 (a ∷ b ∷ c ∷ d ∷ []) }
 {
-    if 16 <= a {
-        return true;
-    }
-    if 16 <= b {
-        return true;
-    }
-    if 16 <= c {
-        return true;
-    }
-    16 <= d
+    16 <= a || 16 <= b || 16 <= c || 16 <= d
 }
 
-// The place, unless a number is above 15.
-fn unless_above(a: u8, b: u8, c: u16, d: u8, place: Place) -> Place
-    ensures { Unless (a ∷ b ∷ c ∷ d ∷ []) place result }
+// The place, or none where a number is above 15.
+fn unless_above(a: u8, b: u8, c: u16, d: u8, place: Place) -> Option<Place>
+    ensures { result ≡ unless (above_15 (a ∷ b ∷ c ∷ d ∷ [])) place }
 {
-    if above_15(a, b, c, d) {
-        return Place::Nowhere;
-    }
-    place
+    (!above_15(a, b, c, d)).then_some(place)
 }
 
-pub fn place_of(fact: Fact) -> Place
-    ensures { IsPlace (fact_of fact) result }
+// A fact with a number above 15 is said nowhere.
+#[tactic(auto, unfolding(crate::specs::Table::place_of))]
+pub fn place_of(fact: Fact) -> Option<Place>
+    ensures { result ≡ place_of (fact_of fact) }
 {
     match fact {
         Fact::Enrolled(i) => unless_above(i, 0, 0, 0, Place::Bit(0, i)),
@@ -88,31 +87,33 @@ pub fn place_of(fact: Fact) -> Place
     }
 }
 
-pub fn stands(state: &[u16], fact: Fact) -> bool
-    requires { length state.now ≡ state_length }
-    ensures { result ≡ (view state.now).stands (fact_of fact) }
+// Whether the words say what is said at a place.
+fn says_at(state: &State, place: Place) -> bool
+    requires { Inside place }
+    ensures { result ≡ says_at state.now place }
 {
-    let place = place_of(fact);
     match place {
-        Place::Nowhere => false,
         Place::Bit(at, n) => bits::has_bit(state[at], n),
         Place::Number(at, u) => state[at] == u,
-        Place::While(at, u, word, n) => {
-            if state[at] != u {
-                return false;
-            }
-            bits::has_bit(state[word], n)
-        }
+        Place::While(at, u, word, n) => state[at] == u && bits::has_bit(state[word], n),
+    }
+}
+
+pub fn stands(state: &State, fact: Fact) -> bool
+    ensures { result ≡ (view state.now).stands (fact_of fact) }
+{
+    match place_of(fact) {
+        Some(place) => says_at(state, place),
+        None => false,
     }
 }
 
 // The user of the session i/s, or 65535 where it is closed.
-pub fn user_of(state: &[u16], i: u8, s: u8) -> u16
-    requires { LawfulWords state.now }
-    ensures { UserOf (view state.now) i s result }
+pub fn user_of(state: Lawful, i: u8, s: u8) -> u16
+    ensures { result ≡ user_of (view state.entry.words.now) i s }
 {
     if above_15(i, s, 0, 0) {
         return layout::NOBODY;
     }
-    state[layout::session_user(i, s)]
+    state.words[layout::session_user(i, s)]
 }

@@ -1,39 +1,33 @@
 -- Roles freed where all of their direct seniors are: all are in the end exactly where no role reaches itself.
-use mathlib.Core.Path.{◌≡◌, refl, ap, sym, subst, ◌∙◌}
-use mathlib.Core.Logic.{◌↔◌}
-use mathlib.Core.Bool.{true, false, not}
-use mathlib.Core.List.{List}
-use Prim.Native.Nat.{ℕ, zero, suc, ◌+◌, ◌-◌, ◌*◌, ◌<◌}
-use native.Mathlib.Omega.{arith}
-use borrow.Author.Tests.{eqb-true, eq-eqb}
-use lib.Bits.{bit_and}
-use lib.Dec.{eqb}
-use lib.ListN.{get_or, replicate, get_or-replicate}
+use Rattle.std.proofs.Common.{◌≡◌, ℕ, zero, suc, ◌+◌, ◌*◌, ◌<◌, Bool, true, false, not, eqb, ◌↔◌, List, length, replicate, sym, refl, ap, ◌∙◌, subst, arith, ext_get_or}
+use Rattle.std.proofs.lemmas.List.{get_or-replicate}
+use lib.Pointwise.{pointwise, bytes_decides}
 use Rattle.bits.specs.Below.{tally}
-use Rattle.bits.specs.Gather.{gather}
+use Rattle.bits.specs.Bit.{bit}
 use Rattle.bits.proofs.Below.{tally_more}
-use Rattle.bits.proofs.Bit.{bit_0, bit_not}
+use Rattle.bits.proofs.Bit.{bit_0, bit_not, word_ext}
 use Rattle.bits.proofs.Booleans.{untrue}
-use Rattle.mtas.specs.Hierarchy.{Role, Graph, itself, down, Acyclic, nth_role, reaches}
+use Rattle.mtas.specs.Hierarchy.{Role, ◌#◌, Graph, itself, down, Acyclic, nth_role, reaches}
 use Rattle.mtas.proofs.Hierarchy.{Numbered, reaches-sound, reaches-complete}
 use Rattle.hierarchy.specs.Links.{among, Full}
 use Rattle.hierarchy.specs.Freed.{AllFree, Filled}
 use Rattle.hierarchy.proofs.Links.{role-at}
-use Rattle.hierarchy.proofs.Rows.{Wide, wide-all, none-outside}
+use Rattle.hierarchy.proofs.Rows.{Wide}
 
--- the set of all roles
-abbrev every : List ℕ
-every = replicate 16 65535
-
-in_every : (a : Role) → a.issuer < 16 → a.number < 16 → among every a ≡ true
-in_every a l m = rw (get_or-replicate {A = ℕ} 16 a.issuer 65535 0 l) (bit_not 16 0 a.number (omega arith) m ∙ ap not (bit_0 a.number))
-
--- r: the bits of every role that is not in the set
-pub tells_full : {s : List ℕ} {r : ℕ} → Wide s → r ≡ gather 16 (λ i. bit_and (get_or every (0 + i) 0) (65535 - get_or s i 0)) → (eqb r 0 ≡ true) ↔ Full s
-tells_full ws e = (
-  λ z a l m. ((none-outside (wide-all 16 65535 (omega arith)) ws).0 (sym e ∙ eqb-true _ _ z)).each a l m (in_every a l m),
-  λ f. eq-eqb _ _ (e ∙ (none-outside (wide-all 16 65535 (omega arith)) ws).1 (record { each = λ a l m h. f a l m })),
+-- a set has every role exactly where each of its words is 65535
+pub tells_full : {s : List ℕ} {r : Bool} → length s ≡ 16 → Wide s → r ≡ pointwise eqb s (replicate 16 65535) → (r ≡ true) ↔ Full s
+tells_full {s} n ws e = (
+  λ t a l m. rw (same.0 (sym e ∙ t), get_or-replicate {A = ℕ} 16 a.issuer 65535 0 l) (all_bits a.number m),
+  λ f. e ∙ same.1 (ext_get_or 0 s (replicate 16 65535) n (λ i l.
+      let h : i < 16 = omega arith in
+      word_ext 16 _ 65535 (ws.each i).fits (omega arith) (λ k m. f (i # k) h m ∙ sym (all_bits k m)) ∙ sym (get_or-replicate {A = ℕ} 16 i 65535 0 h))),
 )
+  where
+    same : (pointwise eqb s (replicate 16 65535) ≡ true → s ≡ replicate 16 65535) × (s ≡ replicate 16 65535 → pointwise eqb s (replicate 16 65535) ≡ true)
+    same = bytes_decides s (replicate 16 65535)
+
+    all_bits : (n : ℕ) → n < 16 → bit 65535 n ≡ true
+    all_bits n l = bit_not 16 0 n (omega arith) l ∙ ap not (bit_0 n)
 
 module _ {e : Graph} (num : Numbered e) where
   -- in a graph without circles a direct senior has fewer roles that reach it, so what passes from all direct seniors to a role holds of every role

@@ -1,11 +1,5 @@
 -- The graph of the attachment words: only numbered roles are linked, and of a state's words it is what the state says.
-use mathlib.Core.Path.{◌≡◌, refl, ap, sym, ◌∙◌}
-use mathlib.Core.Bool.{Bool, true, false}
-use mathlib.Core.List.{List, [], ◌∷◌}
-use Prim.Native.Nat.{ℕ, ◌+◌, ◌*◌, ◌<◌}
-use native.Mathlib.Omega.{arith}
-use lib.ListN.{get_or, take, drop}
-use lib.Seq.{get_or-take, get_or-drop}
+use Rattle.std.proofs.Common.{◌≡◌, ℕ, ◌+◌, ◌*◌, ◌<◌, Bool, true, false, List, [], ◌∷◌, get_or, take, drop, sym, refl, ap, ◌∙◌, arith, get_or-drop, get_or-take}
 use Rattle.bits.specs.Bit.{bit}
 use Rattle.bits.proofs.Booleans.{clash, same_test}
 use Rattle.mtas.specs.Fact.{attached, above_15, Below16}

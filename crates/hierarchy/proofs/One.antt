@@ -1,9 +1,5 @@
 -- The walk upwards from a set of one role sees what reaches that role.
-use mathlib.Core.Path.{◌≡◌, sym, ◌∙◌, subst}
-use mathlib.Core.Logic.{◌⊎◌, inl, inr}
-use mathlib.Core.Bool.{true, false}
-use mathlib.Core.List.{List}
-use Prim.Native.Nat.{ℕ, ◌<◌}
+use Rattle.std.proofs.Common.{◌≡◌, ℕ, ◌<◌, true, false, ◌⊎◌, List, sym, ◌∙◌, subst, inl, inr}
 use Rattle.bits.specs.RoleSet.{in_set, Added}
 use Rattle.bits.proofs.Booleans.{clash, or_cases, or_right, same_test}
 use Rattle.mtas.specs.Hierarchy.{Role, ◌#◌, Graph, Reaches, same_role, reaches}

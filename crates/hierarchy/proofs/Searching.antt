@@ -1,13 +1,6 @@
 -- A set that has all that reaches one of it grows by what reaches one role more; the search for the lowest role of a set that one of an issuer's roles reaches.
-use mathlib.Core.Path.{◌≡◌, ap, sym, subst, ◌∙◌}
-use mathlib.Core.Logic.{◌⊎◌, inl, inr}
+use Rattle.std.proofs.Common.{◌≡◌, ℕ, ◌+◌, ◌*◌, ◌/◌, ◌%◌, ◌<◌, ◌≤◌, Bool, true, false, ◌&&◌, ◌||◌, ◌⊎◌, List, get_or, bit_and, sym, ap, ◌∙◌, subst, inl, inr, arith}
 use mathlib.Core.Option.{none, some}
-use mathlib.Core.Bool.{Bool, true, false, ◌&&◌, ◌||◌}
-use mathlib.Core.List.{List}
-use Prim.Native.Nat.{ℕ, ◌+◌, ◌*◌, ◌/◌, ◌%◌, ◌<◌, ◌≤◌}
-use native.Mathlib.Omega.{arith}
-use lib.Bits.{bit_and}
-use lib.ListN.{get_or}
 use Rattle.bits.specs.Below.{lowest_below}
 use Rattle.bits.specs.Bit.{bit}
 use Rattle.bits.specs.RoleSet.{in_set, Added}

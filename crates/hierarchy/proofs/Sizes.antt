@@ -1,10 +1,5 @@
 -- How many roles a set has: a set that takes in what another has not is larger.
-use mathlib.Core.Path.{◌≡◌, refl, ap, sym, subst}
-use mathlib.Core.Logic.{◌⊎◌, inl, inr}
-use mathlib.Core.Bool.{Bool, true, false, not, ◌&&◌}
-use mathlib.Core.List.{List}
-use Prim.Native.Nat.{ℕ, ◌+◌, ◌-◌, ◌*◌, ◌<◌}
-use native.Mathlib.Omega.{arith}
+use Rattle.std.proofs.Common.{◌≡◌, ℕ, ◌+◌, ◌-◌, ◌*◌, ◌<◌, Bool, true, false, not, ◌&&◌, ◌⊎◌, List, sym, refl, ap, subst, inl, inr, arith}
 use borrow.Author.Tests.{not-true}
 use Rattle.bits.specs.Below.{any_below, tally}
 use Rattle.bits.proofs.Below.{any_both_intro, any_both_elim, tally-le, tally_more}

@@ -1,12 +1,11 @@
 -- The lowest role of a set that one of an issuer's roles reaches.
-use Rattle.std.specs.Prelude.{◌≡◌, Bool, true, ◌&&◌, ◌||◌, List, ℕ, ◌<◌}
-use Rattle.std.proofs.Math.Option.{Option, none, some}
+use Rattle.std.specs.Prelude.{◌≡◌, Bool, true, ◌&&◌, ◌||◌, List, ℕ, ◌<◌, Option, Some, None}
+use Rattle.std.proofs.Math.Option as model
 use Rattle.bits.specs.Below.{any_below}
 use Rattle.bits.specs.Bit.{bit}
 use Rattle.mtas.specs.Hierarchy.{Role, ◌#◌, Graph, reaches}
 use Rattle.hierarchy.specs.Links.{among}
-use Rattle.hierarchy.specs.declared.lowest.Found.{Found}
-use Rattle.hierarchy.specs.declared.lowest.Found.TheVariants as found
+use Rattle.hierarchy.specs.declared.lowest.Role as code
 
 -- the direct seniors of every role of the set are in it, and so all that reaches one of it
 pub record Closed (below : Graph) (set : List ℕ) : Type 0 where
@@ -22,6 +21,6 @@ abbrev pub reached_by : Graph → ℕ → ℕ → Role → Bool
 reached_by below i word b = any_below 16 (λ r. bit word r && reaches below (i # r) b)
 
 -- what the code found
-abbrev pub found_of : Found → Option Role
-found_of (found.Role j q) = some (j # q)
-found_of found.Nothing = none
+abbrev pub found_of : Option code.Role → model.Option Role
+found_of (Some r) = model.some (r.issuer # r.number)
+found_of None = model.none

@@ -1,17 +1,17 @@
 // The test that no role reaches itself by one or more attachments. A role is freed where all of its direct seniors are; on a circle none ever is.
-ghost use Rattle.std.specs.Prelude.{◌≡◌, ◌↔◌, true, ◌/◌, ◌%◌, ◌<◌, ◌≤◌, length};
+ghost use Rattle.std.specs.Prelude.{◌≡◌, ◌↔◌, true, ◌/◌, ◌%◌, ◌<◌};
 ghost use Rattle.bits.specs.RoleSet.{Added};
 ghost use Rattle.mtas.specs.Hierarchy.{Acyclic};
-ghost use Rattle.mtas.specs.Layout.{links_length};
 ghost use Rattle.hierarchy.specs.Links.{linked, Full};
 ghost use Rattle.hierarchy.specs.Freed.{TopsOf, AllFree, Freed, Visited, VisitedAll, Filled, Slide};
 
 use bits::RoleSet;
+use layout::Links;
 use order::Order;
 
 // The roles of issuer j that have no senior, as bits of a word.
-fn tops_of(links: &[u16], j: usize) -> u16
-    requires { (length links.now ≡ links_length) × (j < 16) }
+fn tops_of(links: &Links, j: usize) -> u16
+    requires { j < 16 }
     ensures { TopsOf (linked links.now) j result }
 {
     let mut word = 0u16;
@@ -24,8 +24,7 @@ fn tops_of(links: &[u16], j: usize) -> u16
 }
 
 // The roles that have no senior.
-fn tops(links: &[u16]) -> RoleSet
-    requires { length links.now ≡ links_length }
+fn tops(links: &Links) -> RoleSet
     ensures { AllFree (linked links.now) result.words }
 {
     let mut words = [0u16; 16];
@@ -35,85 +34,91 @@ fn tops(links: &[u16]) -> RoleSet
     RoleSet { words }
 }
 
-// A row of sixteen words from place 15 - i on has 65535 for issuer i, and 0 for the others.
-fn slide() -> [u16; 31]
-    ensures { Slide result }
-{
-    let mut words = [0u16; 31];
-    words[15] = 65535;
-    words
+// What visits roles: the attachment words, and a slide. Of it, sixteen words from place 15 - i on are 65535 for issuer i, and 0 for the others.
+#[derive(Drop)]
+struct Visitor<'a> {
+    links: &'a Links,
+    slide: [u16; 31],
+    ghost slid: { Slide slide },
 }
 
-// The set with the k-th role. Every word is written, so that the set can stay in vector registers.
-fn join(set: RoleSet, k: usize, slide: &[u16]) -> RoleSet
-    requires { (k < 256) × Slide slide.now }
-    ensures { Added (k / 16) (k % 16) set.words result.words }
-{
-    let at = 15 - k / 16;
-    let bit = bits::with_bit(0, (k % 16) as u8);
-    let mut words = set.words;
-    for i in 0..16 {
-        let w = words[i];
-        words[i] = w | (slide[at + i] & bit);
+impl<'a> Visitor<'a> {
+    fn of(links: &'a Links) -> Self
+        ensures { result.links.now ≡ links.now }
+    {
+        let mut slide = [0u16; 31];
+        slide[15] = 65535;
+        Visitor { links, slide }
     }
-    RoleSet { words }
-}
 
-// The k-th role is freed if all of its direct seniors are.
-fn visit(links: &[u16], freed: RoleSet, k: usize, slide: &[u16]) -> RoleSet
-    requires { (length links.now ≡ links_length) × (k < 256) × Slide slide.now }
-    ensures { Visited (linked links.now) k freed.words result.words }
-{
-    if bits::gather_row(links, 16 * k, freed) == 0 {
-        join(freed, k, slide)
-    } else {
+    // The set with the k-th role. Every word is written, so that the set can stay in vector registers.
+    fn join(&self, mut set: RoleSet, k: usize) -> RoleSet
+        requires { k < 256 }
+        ensures { Added (k / 16) (k % 16) set.words result.words }
+    {
+        let at = 15 - k / 16;
+        let bit = bits::with_bit(0, (k % 16) as u8);
+        for (i, w) in set.words.iter_mut().enumerate() {
+            *w |= self.slide[at + i] & bit;
+        }
+        set
+    }
+
+    // The k-th role is freed if all of its direct seniors are.
+    fn visit(&self, freed: RoleSet, k: usize) -> RoleSet
+        requires { k < 256 }
+        ensures { Visited (linked self.now.links.now) k freed.words result.words }
+    {
+        let links = self.links;
+        if bits::gather_row(links, 16 * k, freed) == 0 {
+            self.join(freed, k)
+        } else {
+            freed
+        }
+    }
+
+    // The set with the roles of an order, if each comes after its direct seniors; else the set as it was.
+    // What a role lacks is gathered over all of them and looked at once, since a test of each would hold the next one up.
+    // The order comes by value: lent, it would be copied to be lent, and take its 264 bytes of stack twice.
+    fn visit_in_order(&self, freed: RoleSet, order: Order) -> RoleSet
+        ensures { Freed (linked self.now.links.now) freed.words result.words }
+    {
+        let links = self.links;
+        let mut visited = freed;
+        let mut lacking = RoleSet::empty();
+        for &k in order.as_slice() {
+            let k = k as usize;
+            lacking = bits::stray_row(links, 16 * k, visited, lacking);
+            visited = self.join(visited, k);
+        }
+        if lacking.gather() == 0 {
+            visited
+        } else {
+            freed
+        }
+    }
+
+    // One visit of every role.
+    fn sweep(&self, mut freed: RoleSet) -> RoleSet
+        ensures { VisitedAll (linked self.now.links.now) freed.words result.words }
+    {
+        for k in 0..256 {
+            freed = self.visit(freed, k);
+        }
         freed
     }
-}
 
-// The set with the roles of an order, if each comes after its direct seniors; else the set as it was.
-// What a role lacks is gathered over all of them and looked at once, since a test of each would hold the next one up.
-fn visit_in_order(links: &[u16], freed: RoleSet, order: Order, slide: &[u16]) -> RoleSet
-    requires { (length links.now ≡ links_length) × (order.count ≤ 256) × Slide slide.now }
-    ensures { Freed (linked links.now) freed.words result.words }
-{
-    let count = order.count;
-    let mut visited = freed;
-    let mut lacking = RoleSet::empty();
-    for t in 0..count {
-        let k = order.roles[t] as usize;
-        lacking = bits::stray_row(links, 16 * k, visited, lacking);
-        visited = join(visited, k, slide);
-    }
-    if lacking.gather() == 0 {
-        return visited;
-    }
-    freed
-}
-
-// One visit of every role.
-fn sweep(links: &[u16], mut freed: RoleSet, slide: &[u16]) -> RoleSet
-    requires { (length links.now ≡ links_length) × Slide slide.now }
-    ensures { VisitedAll (linked links.now) freed.words result.words }
-{
-    for k in 0..256 {
-        freed = visit(links, freed, k, slide);
-    }
-    freed
-}
-
-// Sweeps until one changes nothing.
-fn fill(links: &[u16], mut freed: RoleSet, slide: &[u16]) -> RoleSet
-    requires { (length links.now ≡ links_length) × Slide slide.now }
-    ensures { Filled (linked links.now) freed.words result.words }
-{
-    loop {
-        let next = sweep(links, freed, slide);
-        let words = next.words;
-        if bits::gather_row(&words, 0, freed) == 0 {
-            return next;
+    // Sweeps until one changes nothing.
+    fn fill(&self, mut freed: RoleSet) -> RoleSet
+        ensures { Filled (linked self.now.links.now) freed.words result.words }
+    {
+        loop {
+            let next = self.sweep(freed);
+            if bits::gather_row(&next.words, 0, freed) == 0 {
+                return next;
+            }
+            freed = next;
         }
-        freed = next;
     }
 }
 
@@ -121,23 +126,16 @@ fn fill(links: &[u16], mut freed: RoleSet, slide: &[u16]) -> RoleSet
 fn full(set: RoleSet) -> bool
     ensures { (result ≡ true) ↔ Full set.words }
 {
-    let every = RoleSet {
-        words: [65535u16; 16],
-    };
-    bits::gather_row(&every.words, 0, set) == 0
+    set.words == [u16::MAX; 16]
 }
 
 // Whether no role reaches itself by one or more attachments. With seniors before juniors one visit frees each role; sweeps decide the rest.
 #[inline(never)]
-pub fn acyclic(links: &[u16]) -> bool
-    requires { length links.now ≡ links_length }
+pub fn acyclic(links: &Links) -> bool
     ensures { (result ≡ true) ↔ Acyclic (linked links.now) }
 {
-    let slide = slide();
+    let visitor = Visitor::of(links);
     let first = tops(links);
-    let freed = visit_in_order(links, first, order::search(links, first), &slide);
-    if full(freed) {
-        return true;
-    }
-    full(fill(links, freed, &slide))
+    let freed = visitor.visit_in_order(first, order::search(links, first));
+    full(freed) || full(visitor.fill(freed))
 }

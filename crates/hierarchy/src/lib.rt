@@ -2,18 +2,18 @@
 // A role's row of the attachment words is the set of its direct seniors, so both walk upwards, a row at a time.
 #![tactic(auto)]
 
-ghost use Rattle.std.specs.Prelude.{◌≡◌, ◌<◌, length};
-ghost use Rattle.mtas.specs.Layout.{links_length};
+ghost use Rattle.std.specs.Prelude.{◌<◌};
 ghost use Rattle.hierarchy.specs.Links.{linked, Reaching, ReachingOne};
 ghost use Rattle.hierarchy.specs.Climbing.{Climbing};
 
 use bits::RoleSet;
+use layout::Links;
 
 mod circles;
 mod lowest;
 
 pub use circles::acyclic;
-pub use lowest::{Found, lowest_reached};
+pub use lowest::{Role, lowest_reached};
 
 // A climb: the roles seen, and those whose direct seniors are seen too.
 #[derive(Clone, Copy)]
@@ -24,8 +24,8 @@ struct Climb {
 
 // A climb goes on until the direct seniors of all that it has seen are seen too: in rounds, issuer by issuer, and of each issuer also those that come so.
 // The loops stand in one function, so that the sets aren't copied from one to another for each role.
-fn finish(links: &[u16], from: Climb) -> RoleSet
-    requires { (length links.now ≡ links_length) × Climbing (linked links.now) from.seen.words from.seen.words from.done.words }
+fn finish(links: &Links, from: Climb) -> RoleSet
+    requires { Climbing (linked links.now) from.seen.words from.seen.words from.done.words }
     ensures { Reaching (linked links.now) from.seen.words result.words }
 {
     let mut seen = from.seen;
@@ -53,8 +53,7 @@ fn finish(links: &[u16], from: Climb) -> RoleSet
 }
 
 // The roles that reach one of a set.
-fn above(links: &[u16], set: RoleSet) -> RoleSet
-    requires { length links.now ≡ links_length }
+fn above(links: &Links, set: RoleSet) -> RoleSet
     ensures { Reaching (linked links.now) set.words result.words }
 {
     finish(
@@ -67,8 +66,8 @@ fn above(links: &[u16], set: RoleSet) -> RoleSet
 }
 
 // The roles that reach i#r.
-pub fn above_one(links: &[u16], i: usize, r: u8) -> RoleSet
-    requires { (length links.now ≡ links_length) × (i < 16) × (r < 16) }
+pub fn above_one(links: &Links, i: usize, r: u8) -> RoleSet
+    requires { (i < 16) × (r < 16) }
     ensures { ReachingOne (linked links.now) i r result.words }
 {
     above(links, RoleSet::empty().add(i, r))

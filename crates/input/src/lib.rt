@@ -7,6 +7,7 @@ ghost use Rattle.std.specs.Io.KnownBytes.{Consumes, IsAtEnd};
 use std::io::Read;
 
 // How many bytes at the start of the buffer were read, and whether a read failed behind them.
+// Not a Result: it would have the size in both of its cases, and the programs take the size of either.
 #[derive(Clone, Copy)]
 pub struct Filled {
     pub size: usize,

@@ -1,11 +1,6 @@
 -- The roles that are allowed to j: the public ones of the issuers that trust it, with j's own word written over.
-use mathlib.Core.Path.{◌≡◌, refl, sym}
-use mathlib.Core.List.{List}
-use Prim.Native.Nat.{ℕ, ◌<◌}
+use Rattle.std.proofs.Common.{◌≡◌, refl, sym, List, ℕ, ◌<◌, length, get_or, set, get_or-set_same, get_or-set_other, eq-eqb, ne_eqb}
 use native.Mathlib.Decide.{ℕ_discrete}
-use lib.ListN.{length, get_or, set}
-use lib.Seq.{get_or-set_same, get_or-set_other}
-use borrow.Author.Tests.{eq-eqb, ne_eqb}
 use Rattle.bits.specs.Bit.{bit}
 use Rattle.mtas.specs.Layout.{trusted, roles, public_roles, read}
 use Rattle.law.specs.Stray.{only_if, allowed, Trusting}

@@ -1,12 +1,6 @@
 -- No stray bits, said of the facts: what each kind of fact needs at first hand.
-use mathlib.Core.Path.{◌≡◌, refl, sym, ◌∙◌}
-use mathlib.Core.List.{List}
-use mathlib.Core.Logic.{◌↔◌}
-use mathlib.Core.Bool.{Bool, true, false, cond}
-use Prim.Native.Nat.{ℕ, ◌+◌, ◌*◌, ◌<◌}
+use Rattle.std.proofs.Common.{◌≡◌, refl, sym, ◌∙◌, List, ◌↔◌, Bool, true, false, cond, ℕ, ◌+◌, ◌*◌, ◌<◌, eqb, get_or}
 use lib.Bits.{bit_or}
-use lib.Dec.{eqb}
-use lib.ListN.{get_or}
 use Rattle.bits.specs.Bit.{bit}
 use Rattle.bits.specs.Gather.{gather}
 use Rattle.bits.proofs.Gather.{or-zero, gather-zero, stray_zero}

@@ -1,12 +1,6 @@
 -- Words with no stray bits, said bit by bit.
-use mathlib.Core.Path.{◌≡◌, refl, ap, sym, ◌∙◌}
-use mathlib.Core.Logic.{◌↔◌}
-use mathlib.Core.Bool.{Bool, true, false, not, ◌&&◌, ◌||◌}
-use Prim.Native.Nat.{ℕ, ◌^◌, ◌<◌}
-use native.Mathlib.Omega.{arith}
-use borrow.Author.Tests.{eq-eqb, eqb-true}
+use Rattle.std.proofs.Common.{◌≡◌, refl, ap, sym, ◌∙◌, ◌↔◌, Bool, true, false, not, ◌&&◌, ◌||◌, ℕ, ◌^◌, ◌<◌, arith, eq-eqb, eqb-true, eqb}
 use lib.Bits.{or_zero_l}
-use lib.Dec.{eqb}
 use lib.Pow.{pow-lt}
 use Rattle.bits.specs.Bit.{bit, with_bit}
 use Rattle.bits.proofs.Booleans.{and_left, and_right, and_intro}

@@ -1,14 +1,6 @@
 -- Sessions in order, on words that are supported, are what the law asks of sessions.
-use mathlib.Core.Path.{◌≡◌, refl, ap, sym, ◌∙◌}
-use mathlib.Core.List.{List}
-use mathlib.Core.Bool.{Bool, true, false}
-use mathlib.Core.Logic.{◌⊎◌, inl, inr}
-use Prim.Native.Nat.{ℕ, ◌<◌, ◌≤◌}
+use Rattle.std.proofs.Common.{◌≡◌, refl, ap, sym, ◌∙◌, List, Bool, true, false, ◌⊎◌, inl, inr, ℕ, ◌<◌, ◌≤◌, arith, eqb, get_or, eqb-true, eq-eqb}
 use native.Mathlib.Decide.{ℕ_discrete}
-use native.Mathlib.Omega.{arith}
-use lib.Dec.{eqb}
-use lib.ListN.{get_or}
-use borrow.Author.Tests.{eqb-true, eq-eqb}
 use Rattle.bits.specs.Bit.{bit}
 use Rattle.bits.proofs.Bit.{bit_0, word_ext}
 use Rattle.bits.proofs.Booleans.{clash, untrue, and_both, and_intro, below_or_not}

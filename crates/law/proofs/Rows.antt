@@ -1,8 +1,5 @@
 -- Sixteen rows depend on the words allowed at sixteen places only.
-use mathlib.Core.Path.{◌≡◌, ap}
-use mathlib.Core.List.{List}
-use Prim.Native.Nat.{ℕ, ◌+◌, ◌*◌, ◌<◌}
-use lib.ListN.{get_or}
+use Rattle.std.proofs.Common.{◌≡◌, ap, List, ℕ, ◌+◌, ◌*◌, ◌<◌, get_or}
 use Rattle.bits.specs.Bit.{bit}
 use Rattle.bits.proofs.Gather.{gather_ext}
 use Rattle.bits.specs.Gather.{outside}

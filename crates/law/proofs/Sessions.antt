@@ -1,9 +1,5 @@
 -- Nothing is doubtful where all sessions are closed.
-use mathlib.Core.Path.{◌≡◌, sym, ◌∙◌}
-use mathlib.Core.List.{List}
-use Prim.Native.Nat.{ℕ, ◌-◌, ◌<◌}
-use native.Mathlib.Omega.{arith}
-use lib.ListN.{get_or}
+use Rattle.std.proofs.Common.{◌≡◌, sym, ◌∙◌, List, ℕ, ◌-◌, ◌<◌, arith, get_or}
 use Rattle.bits.specs.Gather.{gather}
 use Rattle.bits.proofs.Gather.{gather-zero, or-zero}
 use Rattle.mtas.specs.Layout.{session_user, active_roles, address, read}

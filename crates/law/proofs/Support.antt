@@ -1,11 +1,5 @@
 -- Supported words are those with no stray bits: what a fact needs at first hand brings the rest.
-use mathlib.Core.Path.{◌≡◌, refl, sym, ◌∙◌}
-use mathlib.Core.List.{List, ◌∷◌}
-use mathlib.Core.Logic.{◌↔◌}
-use mathlib.Core.Bool.{true}
-use Prim.Native.Nat.{ℕ, ◌<◌}
-use native.Mathlib.Omega.{arith}
-use lib.ListN.{get_or}
+use Rattle.std.proofs.Common.{◌≡◌, refl, sym, ◌∙◌, List, ◌∷◌, ◌↔◌, true, ℕ, ◌<◌, arith, get_or}
 use Rattle.bits.specs.Gather.{gather}
 use Rattle.bits.proofs.Gather.{gather-zero}
 use Rattle.mtas.specs.Fact.{Fact, enrolled, trusts, user, role, permission, public, holds, granted, attached, opened, active, numbers, Below16}

@@ -47,10 +47,6 @@ allowed ws j i = only_if (bit (read ws (trusted i)) j) (exposed_roles ws j i)
 pub record Trusting (ws : List ℕ) (j : ℕ) (words : List ℕ) : Type 0 where
   pub each : (i : ℕ) → i < 16 → get_or words i 0 ≡ allowed ws j i
 
--- after: the set before where the test holds, else no role
-pub record OnlyIf (test : Bool) (before after : List ℕ) : Type 0 where
-  pub each : (i : ℕ) → get_or after i 0 ≡ only_if test (get_or before i 0)
-
 -- 'grants and attachments only between present ends': word i of row p of j in a region may have the bits of a i, if bit p of present is set
 abbrev pub link_stray : List ℕ → ℕ → ℕ → ℕ → (ℕ → ℕ) → ℕ → ℕ → ℕ
 link_stray ws from j present a i p = outside (get_or ws (from + 16 * (16 * j + p) + i) 0) (only_if (bit present p) (a i))

@@ -3,13 +3,13 @@
 #![tactic(auto)]
 
 ghost use Rattle.std.specs.Prelude.{◌≡◌, ◌↔◌, true, ◌+◌, ◌*◌, ◌<◌, ◌≤◌, length, get_or};
-ghost use Rattle.bits.specs.Gather.{gather};
-ghost use Rattle.mtas.specs.Layout.{state_length};
 ghost use Rattle.mtas.specs.LawTest.{lawful_words};
 ghost use Rattle.sessions.specs.Lesser.{Plain};
 ghost use Rattle.law.specs.Supported.{Surveyed};
-ghost use Rattle.bits.specs.Gather.{outside};
-ghost use Rattle.law.specs.Stray.{only_if, own_stray, held_stray, OnlyIf, Trusting, rows_stray, issuer_stray, issuer_doubt};
+ghost use Rattle.law.specs.Stray.{only_if, own_stray, held_stray, Trusting, rows_stray, issuer_stray, issuer_doubt};
+
+use bits::RoleSet;
+use layout::State;
 
 // w where the test holds, else no bit.
 fn only_if(test: bool, w: u16) -> u16
@@ -18,16 +18,10 @@ fn only_if(test: bool, w: u16) -> u16
     if test { w } else { 0 }
 }
 
-// The bits of w that are not bits of the allowed word.
-fn outside(w: u16, allowed: u16) -> u16
-    ensures { result ≡ outside w allowed }
-{
-    w & !allowed
-}
-
 // Trust only among enrolled issuers, i's in itself where i is enrolled, users, roles and permissions only there, and only present roles public.
-fn stray_own(state: &[u16], i: usize) -> u16
-    requires { (length state.now ≡ state_length) × (i < 16) }
+#[tactic(auto, unfolding(crate::specs::Stray::own_stray, crate::specs::Stray::trust_stray, crate::specs::Stray::present_stray, crate::specs::Stray::public_stray))]
+fn stray_own(state: &State, i: usize) -> u16
+    requires { i < 16 }
     ensures { result ≡ own_stray state.now i }
 {
     let n = i as u8;
@@ -35,40 +29,43 @@ fn stray_own(state: &[u16], i: usize) -> u16
     let trusted = state[layout::TRUSTED_AT + i];
     let here = bits::has_bit(enrolled, n);
     let itself = bits::with_bit(0, n);
-    let all = only_if(here, 65535);
+    let all = only_if(here, u16::MAX);
     let roles = state[layout::ROLES_AT + i];
-    let trust = outside(trusted, only_if(here, enrolled)) | outside(only_if(here, itself), trusted);
-    let present = outside(state[layout::USERS_AT + i], all)
-        | outside(roles, all)
-        | outside(state[layout::PERMISSIONS_AT + i], all);
-    let public = outside(state[layout::PUBLIC_AT + i], roles);
+    let trust = trusted & !only_if(here, enrolled) | only_if(here, itself) & !trusted;
+    let present = state[layout::USERS_AT + i] & !all
+        | roles & !all
+        | state[layout::PERMISSIONS_AT + i] & !all;
+    let public = state[layout::PUBLIC_AT + i] & !roles;
     trust | present | public
 }
 
 // Held bits only between a present user and a present role of i.
-fn stray_held(state: &[u16], i: usize) -> u16
-    requires { (length state.now ≡ state_length) × (i < 16) }
+#[tactic(auto, unfolding(bits::specs::Gather::gather, crate::specs::Stray::held_stray))]
+fn stray_held(state: &State, i: usize) -> u16
+    requires { i < 16 }
     ensures { result ≡ held_stray state.now i }
 {
     let users = state[layout::USERS_AT + i];
     let roles = state[layout::ROLES_AT + i];
-    let mut found = 0u16;
+    let mut found = 0;
     for u in 0..16 {
         let allowed = only_if(bits::has_bit(users, u as u8), roles);
-        found = found | outside(state[layout::HELD_AT + 16 * i + u], allowed);
+        found |= state[layout::HELD_AT + 16 * i + u] & !allowed;
     }
     found
 }
 
 // The roles that may hold j's permissions and be seniors of j's roles: of the issuers that trust j those public, and of j itself those present.
-fn trusting(state: &[u16], j: usize) -> bits::RoleSet
-    requires { (length state.now ≡ state_length) × (j < 16) }
+// j's own word is written over behind the loop: with a choice in the loop the law test was slower.
+#[tactic(auto, using(crate::proofs::Allowed::own_over))]
+fn trusting(state: &State, j: usize) -> RoleSet
+    requires { j < 16 }
     ensures { Trusting state.now j result.words }
 {
     let n = j as u8;
-    let mut words = [0u16; 16];
-    for i in 0..16 {
-        words[i] = only_if(
+    let mut words = [0; 16];
+    for (i, w) in words.iter_mut().enumerate() {
+        *w = only_if(
             bits::has_bit(state[layout::TRUSTED_AT + i], n),
             state[layout::PUBLIC_AT + i],
         );
@@ -77,35 +74,33 @@ fn trusting(state: &[u16], j: usize) -> bits::RoleSet
         bits::has_bit(state[layout::TRUSTED_AT + j], n),
         state[layout::ROLES_AT + j],
     );
-    bits::RoleSet { words }
-}
-
-// The set where the test holds, else no role.
-fn roles_if(test: bool, set: bits::RoleSet) -> bits::RoleSet
-    ensures { OnlyIf test set.words result.words }
-{
-    if test { set } else { bits::RoleSet::empty() }
+    RoleSet { words }
 }
 
 // The sixteen rows of issuer j in the region from state[from] on: row p has only allowed roles, and none where bit p of present is not set.
 // The bits of present are taken one by one, and the rows gathered side by side: so the compiler takes each row whole.
-fn stray_rows(state: &[u16], from: usize, j: usize, present: u16, allowed: bits::RoleSet) -> u16
+fn stray_rows(state: &State, from: usize, j: usize, present: u16, allowed: RoleSet) -> u16
     requires { from + 16 * (16 * j + 16) ≤ length state.now }
     ensures { result ≡ rows_stray state.now from j present (λ i. get_or allowed.words i 0) }
 {
-    let mut found = bits::RoleSet::empty();
+    let mut found = RoleSet::empty();
     let mut rest = present;
     for p in 0..16 {
-        let row = roles_if(rest % 2 == 1, allowed);
+        let row = if rest % 2 == 1 {
+            allowed
+        } else {
+            RoleSet::empty()
+        };
         found = bits::stray_row(state, from + 16 * (16 * j + p), row, found);
-        rest = rest / 2;
+        rest /= 2;
     }
     found.gather()
 }
 
 // The stray bits of the words that the issuer i owns, but for its sessions.
-fn stray_of(state: &[u16], i: usize) -> u16
-    requires { (length state.now ≡ state_length) × (i < 16) }
+#[tactic(auto, using(crate::proofs::Rows::rows_ext), unfolding(crate::specs::Stray::issuer_stray))]
+fn stray_of(state: &State, i: usize) -> u16
+    requires { i < 16 }
     ensures { result ≡ issuer_stray state.now i }
 {
     let allowed = trusting(state, i);
@@ -127,38 +122,33 @@ fn stray_of(state: &[u16], i: usize) -> u16
 }
 
 // Strangers in i's sessions, and active roles that their users don't hold. Most issuers have no session open, and then sixteen are looked at at once.
-fn doubt_of(state: &[u16], i: usize) -> u16
-    requires { (length state.now ≡ state_length) × (i < 16) }
+#[tactic(auto, using(crate::proofs::Sessions::all_closed), unfolding(bits::specs::Gather::gather, crate::specs::Stray::issuer_doubt))]
+fn doubt_of(state: &State, i: usize) -> u16
+    requires { i < 16 }
     ensures { result ≡ issuer_doubt state.now i }
 {
     if sessions::awake(state, i) == 0 {
         return 0;
     }
-    let mut found = 0u16;
+    let mut found = 0;
     for s in 0..16 {
-        found = found | (sessions::stranger(state, i, s) | sessions::lesser(state, i, s));
+        found |= sessions::stranger(state, i, s) | sessions::lesser(state, i, s);
     }
     found
 }
 
-// What a survey of all issuers' words has found: stray bits, and what is doubtful in sessions.
-#[derive(Clone, Copy)]
-struct Found {
-    stray: u16,
-    doubt: u16,
-}
-
-fn survey(state: &[u16]) -> Found
-    requires { length state.now ≡ state_length }
-    ensures { Surveyed state.now result.stray result.doubt }
+// What a survey of all issuers' words finds: stray bits, and what is doubtful in sessions.
+#[tactic(auto, unfolding(bits::specs::Gather::gather))]
+fn survey(state: &State) -> (u16, u16)
+    ensures { Surveyed state.now result.0 result.1 }
 {
-    let mut stray = 0u16;
-    let mut doubt = 0u16;
+    let mut stray = 0;
+    let mut doubt = 0;
     for i in 0..16 {
-        stray = stray | stray_of(state, i);
-        doubt = doubt | doubt_of(state, i);
+        stray |= stray_of(state, i);
+        doubt |= doubt_of(state, i);
     }
-    Found { stray, doubt }
+    (stray, doubt)
 }
 
 // What the law test tells: whether the words are a lawful state, and whether no session of it is to be looked at more closely,
@@ -171,32 +161,15 @@ pub struct Law {
 
 // What stands has what it needs, no role reaches itself by one or more attachments, and each active role is reached by one
 // that the session's user holds. Where it holds them all, nothing is walked for that.
-pub fn test(state: &[u16]) -> Law
-    requires { length state.now ≡ state_length }
+pub fn test(state: &State) -> Law
     ensures { (result.lawful ≡ lawful_words state.now) × ((result.plain ≡ true) ↔ Plain state.now) }
 {
-    let found = survey(state);
-    let plain = found.doubt == 0;
-    if found.stray != 0 {
-        return Law {
-            lawful: false,
-            plain,
-        };
-    }
-    if !hierarchy::acyclic(&state[layout::SENIORS_AT..layout::SESSIONS_AT]) {
-        return Law {
-            lawful: false,
-            plain,
-        };
-    }
-    if plain {
-        return Law {
-            lawful: true,
-            plain,
-        };
-    }
+    let (stray, doubt) = survey(state);
+    let plain = doubt == 0;
     Law {
-        lawful: sessions::in_order(state),
+        lawful: stray == 0
+            && hierarchy::acyclic(layout::links(state))
+            && (plain || sessions::in_order(state)),
         plain,
     }
 }

@@ -1,8 +1,8 @@
 // Where the words of a state stand (document 01, 'The state'): the regions' beginnings and lengths, and the place of each word.
 #![tactic(auto)]
 
-ghost use Rattle.std.specs.Prelude.{◌≡◌};
-ghost use Rattle.mtas.specs.Layout.{address, trusted, users, roles, permissions, held, holders, seniors, session_user, active_roles, public_roles};
+ghost use Rattle.std.specs.Prelude.{◌≡◌, take, drop};
+ghost use Rattle.mtas.specs.Layout.{links_length, seniors_at, address, trusted, users, roles, permissions, held, holders, seniors, session_user, active_roles, public_roles};
 
 pub const TRUSTED_AT: usize = 1;
 
@@ -24,8 +24,25 @@ pub const PUBLIC_AT: usize = 9025;
 
 pub const STATE_LENGTH: usize = 9041;
 
+// The words of a state.
+pub type State = [u16; STATE_LENGTH];
+
+pub const LINKS_LENGTH: usize = 4096;
+
+// Its attachment words: the direct seniors of each role, a row for each role.
+pub type Links = [u16; LINKS_LENGTH];
+
 // The user of a closed session.
 pub const NOBODY: u16 = 65535;
+
+pub fn links(state: &State) -> &Links
+    ensures { result.now ≡ take links_length (drop seniors_at state.now) }
+{
+    state[SENIORS_AT..SESSIONS_AT].as_array().unwrap()
+}
+
+// Below, a function for each word. Some differ only in where their region begins, and stay apart: each promises the address of another word,
+// which the model has under the same name, and one function of all words would be these lines in a match and each call longer.
 
 // The issuers that i trusts.
 pub fn trusted(i: u8) -> usize

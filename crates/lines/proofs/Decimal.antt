@@ -1,4 +1,4 @@
--- The digits of a number spell it, digit by digit, and are as few as its size says.
+-- The digits of a number spell it, digit by digit, and are as few as its size says. The library's lemmas on digits ask for a number below 2 ^ 64 or 10 ^ 64, and these stand for every number.
 use mathlib.Core.Path.{◌≡◌, refl, ap, sym, ◌∙◌}
 use mathlib.Core.Logic.{⊎_elim}
 use mathlib.Core.List.{List, [], ◌∷◌, ◌++◌}

@@ -1,6 +1,6 @@
 -- What a buffer holds: the bytes before its len.
 use Rattle.std.specs.Prelude.{◌≡◌, List, ◌++◌, ℕ, ◌+◌, ◌≤◌, length, take, drop}
-use Rattle.lines.specs.declared.Buffer.{Buffer}
+use Rattle.lines.specs.declared.buffer.Buffer.{Buffer}
 
 abbrev pub written : Buffer → List ℕ
 written b = take b.len b.bytes

@@ -9,9 +9,10 @@ use borrow.Author.Tests.{eq-eqb, ne_eqb}
 use Rattle.bits.specs.Update.{Updated}
 use Rattle.bits.specs.Stride.{in_run}
 use Rattle.bits.proofs.Stride.{run_in}
+use Rattle.std.proofs.Math.Option.{none}
 use Rattle.bits.proofs.Below.{length-tabulate, get_d_tabulate}
 use Rattle.mtas.specs.Layout.{session_user, Cell, sixteen, its_user, in_session, cell, sessions_at, public_at, state_length, address, word_at}
-use Rattle.mtas.specs.Answer.{Answer, refuses}
+use Rattle.mtas.specs.Answer.{Answer, accepts, refuses}
 use Rattle.mtas.specs.Monitor.{initial, initial_words, start}
 use Rattle.mtas.proofs.Address.{word_at-address, address-word_at, word_at-numbered}
 use Rattle.mtas.proofs.Cells.{Placed, placed}
@@ -36,15 +37,15 @@ module _ (k : ℕ) (l : k < state_length) where
           absurd (n (omega arith) (omega arith) (omega arith))
       go (in_session i s f) p = refl
 
-pub started : {ws vs : List ℕ} {x : Answer} → length ws ≡ state_length → Updated (in_run 0 state_length) (λ k x. initial (cell (word_at k))) ws vs → x ≡ refuses 0 → Gives (start ws) x vs
+pub started : (ws : List ℕ) {vs : List ℕ} {x : Answer} → length ws ≡ state_length → Updated (in_run 0 state_length) (λ k x. initial (cell (word_at k))) ws vs → x ≡ accepts none → Gives (start ws) x vs
 unfolding start initial_words
-started {ws} {vs} long u e = rw (eq-eqb (length ws) state_length long, start) (record { same_answer = e; same_words = words })
+started ws {vs} long u e = rw (eq-eqb (length ws) state_length long, start) (record { same_answer = e; same_words = words })
   where
     words : vs ≡ initial_words
     words =
         ext_get_or 0 vs initial_words (u.len ∙ long ∙ sym (length-tabulate state_length (λ k. initial (cell (word_at k)))))
         (λ k l. let b : k < state_length = omega (arith, u.len) in u.each k ∙ rw (run_in 0 state_length k (omega arith) (omega arith)) (sym (get_d_tabulate state_length (λ j. initial (cell (word_at j))) k b)))
 
-pub not_started : {ws : List ℕ} {x : Answer} → (length ws ≡ state_length → ⊥) → x ≡ refuses 1 → Gives (start ws) x ws
+pub not_started : (ws : List ℕ) {x : Answer} → (length ws ≡ state_length → ⊥) → x ≡ refuses 1 → Gives (start ws) x ws
 unfolding start
-not_started {ws} n e = rw (ne_eqb (length ws) state_length n, start) (record { same_answer = e; same_words = refl })
+not_started ws n e = rw (ne_eqb (length ws) state_length n, start) (record { same_answer = e; same_words = refl })

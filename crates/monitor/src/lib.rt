@@ -4,15 +4,20 @@
 ghost use Rattle.std.specs.Prelude.{◌≡◌, ◌<◌};
 ghost use Rattle.mtas.specs.Layout.{state_length, cell, word_at};
 ghost use Rattle.mtas.specs.Monitor.{initial, start, monitor};
-ghost use Rattle.mtas.specs.Answer.{accepts, refuses};
-ghost use Rattle.hierarchy.specs.Lowest.{found_of};
-ghost use Rattle.monitor.specs.Contract.{answer_of, Gives};
+ghost use Rattle.monitor.specs.Contract.{answer_of, numbers, Gives};
 
-use hierarchy::Found;
+use facts::Lawful;
+use hierarchy::Role;
+use layout::STATE_LENGTH;
 use record::Decoded;
+use rule::Refusal;
 
-// A refusal (0 for accepted), a verdict, and the role that gave a yes: its issuer and its number, 255 and 255 without a yes.
-#[derive(Clone, Copy)]
+// How a call ends: refused, or accepted with the role that gives a yes, or none.
+pub type Outcome = Result<Option<Role>, Refusal>;
+
+// The outcome in document 01's numbers: a refusal (0 for accepted), a verdict, and the role that gave a yes: its issuer and its number,
+// 255 and 255 without a yes.
+#[derive(Clone, Copy, Debug, PartialEq, Eq)]
 pub struct Answer {
     pub refusal: u16,
     pub verdict: u16,
@@ -20,30 +25,24 @@ pub struct Answer {
     pub role: u8,
 }
 
-// An answer without a yes: to a refused call, and with 0 to starting, to a sign of life and to an accepted call.
-fn refuse(n: u16) -> Answer
-    ensures { answer_of result ≡ refuses n }
-{
-    Answer {
-        refusal: n,
-        verdict: 0,
-        issuer: 255,
-        role: 255,
-    }
-}
+impl From<Outcome> for Answer {
+    ghost from_gives = { λ o a. numbers a ≡ answer_of o };
 
-// The answer to an accepted call, by what it looked up.
-fn accept(found: Found) -> Answer
-    ensures { answer_of result ≡ accepts (found_of found) }
-{
-    match found {
-        Found::Role(issuer, role) => Answer {
-            refusal: 0,
-            verdict: 1,
-            issuer,
-            role,
-        },
-        Found::Nothing => refuse(0),
+    fn from(outcome: Outcome) -> Answer {
+        let (refusal, found) = match outcome {
+            Err(refusal) => (refusal.into(), None),
+            Ok(role) => (0, role),
+        };
+        let role = found.unwrap_or(Role {
+            issuer: 255,
+            number: 255,
+        });
+        Answer {
+            refusal,
+            verdict: found.is_some() as u16,
+            issuer: role.issuer,
+            role: role.number,
+        }
     }
 }
 
@@ -52,54 +51,48 @@ fn initial(k: usize) -> u16
     requires { k < state_length }
     ensures { result ≡ initial (cell (word_at k)) }
 {
-    if k < layout::SESSIONS_AT {
-        return 0;
+    if k >= layout::SESSIONS_AT && k < layout::PUBLIC_AT && (k - layout::SESSIONS_AT) % 2 == 0 {
+        layout::NOBODY
+    } else {
+        0
     }
-    if layout::PUBLIC_AT <= k {
-        return 0;
-    }
-    if (k - layout::SESSIONS_AT) % 2 == 0 {
-        return layout::NOBODY;
-    }
-    0
 }
 
 // Starting: a state of any words and any length.
-pub fn start(state: &mut [u16]) -> Answer
+pub fn start(state: &mut [u16]) -> Outcome
     ensures { Gives (start state.old) (answer_of result) state.new }
 {
-    if state.len() != layout::STATE_LENGTH {
-        return refuse(1);
-    }
-    for k in 0..layout::STATE_LENGTH {
+    let Some(state) = state.as_mut_array::<STATE_LENGTH>() else {
+        return Err(Refusal::StateLength);
+    };
+    // Word by word, by its number: of `fill` the compiler makes a call of memset, and the library's header says that it calls none.
+    for k in 0..STATE_LENGTH {
         state[k] = initial(k);
     }
-    refuse(0)
+    Ok(None)
 }
 
 // A record of any bytes, played on a state of any words and any length.
-pub fn call(state: &mut [u16], record: &[u8]) -> Answer
+pub fn call(state: &mut [u16], record: &[u8]) -> Outcome
     ensures { Gives (monitor state.old «record».now) (answer_of result) state.new }
 {
-    if state.len() != layout::STATE_LENGTH {
-        return refuse(1);
-    }
+    let Some(state) = state.as_mut_array::<STATE_LENGTH>() else {
+        return Err(Refusal::StateLength);
+    };
     let law = law::test(state);
     if !law.lawful {
-        return refuse(2);
+        return Err(Refusal::Unlawful);
     }
     let decoded = record::decode(record);
-    let Decoded::Request(caller, call) = decoded else {
-        if let Decoded::SignOfLife = decoded {
-            return refuse(0);
-        }
-        return refuse(3);
+    let Decoded::Request(request) = decoded else {
+        return match decoded {
+            Decoded::SignOfLife => Ok(None),
+            _ => Err(Refusal::Undecodable),
+        };
     };
-    let refusal = answers::refusal(state, caller, call);
-    if refusal != 0 {
-        return refuse(refusal);
-    }
-    let found = answers::looked_up(state, caller, call);
-    effects::change(state, caller, call, law.plain);
-    accept(found)
+    let lawful = Lawful { words: &*state };
+    answers::refusal(lawful, request)?;
+    let found = answers::looked_up(lawful, request);
+    effects::change(state, request, law.plain);
+    Ok(found)
 }

@@ -11,6 +11,7 @@ use mir.Val.{Fits}
 use borrow.Author.Tests.{le-ltb, lt-ltb, eq-eqb}
 use Rattle.mtas.specs.Layout.{state_length}
 use Rattle.mtas.specs.Record.{kind_of, caller_of}
+use Rattle.mtas.specs.Answer as model
 use Rattle.mtas.specs.Monitor.{monitor, start}
 use Rattle.mtas.specs.Histories.{final}
 use Rattle.mtas.specs.Journal.{Ending, complete, broken_at, Reading, whole, first_of, read_from, played, end, broken, long, lines_from, last_line, journal_limit, output, read_journal}
@@ -19,21 +20,22 @@ use Rattle.journal.specs.declared.Found.{Found}
 use Rattle.journal.specs.declared.Found.TheVariants.{NoMore, Whole, Partial}
 use Rattle.lines.specs.Text.{text_of, text_of_all}
 use Rattle.lines.specs.Written.{Exactly, Appended}
-use Rattle.lines.specs.declared.Buffer.{Buffer}
+use Rattle.lines.specs.declared.buffer.Buffer.{Buffer}
 use Rattle.lines.proofs.Decimal.{few}
 use Rattle.monitor.specs.declared.Answer.{Answer}
-use Rattle.monitor.specs.Contract.{answer_of, Gives}
+use Rattle.monitor.specs.Contract.{numbers, Gives}
 use Rattle.player.specs.Played.{room, left_by, Played}
 use Rattle.player.specs.Turned.{Turned}
 
 -- ---- one turn, by what was found
 module _ {ws left : List ℕ} {at count : ℕ} {found : Found} {line : Buffer} (near : at ≤ journal_limit) (early : count ≤ at) where
-  pub turn_played : {ws' bytes : List ℕ} {len kind caller : ℕ} {answer : Answer} → found ≡ Whole len → bytes ≡ take len left
-      → Gives (monitor ws bytes) (answer_of answer) ws' → kind ≡ kind_of bytes → caller ≡ caller_of bytes
+  pub turn_played : {ws' bytes : List ℕ} {len kind caller : ℕ} {answer : Answer} {told : model.Answer} → found ≡ Whole len → bytes ≡ take len left
+      → Gives (monitor ws bytes) told ws' → numbers answer ≡ told → kind ≡ kind_of bytes → caller ≡ caller_of bytes
       → Exactly line (text_of (played (count + 1) kind caller answer.refusal answer.verdict)) × (count + 1 < 100000 → line.len ≤ 28)
       → Turned ws left at count found ws' line
-  turn_played f b v k c (w, s) =
-      rw f (record { words = rw b at v.same_words; text = rw (k, c, ap (λ a. a.refusal) v.same_answer, ap (λ a. a.verdict) v.same_answer, b) at w; short = s (omega arith) })
+  turn_played f b v n k c (w, s) =
+      let e = n ∙ v.same_answer in
+      rw f (record { words = rw b at v.same_words; text = rw (k, c, ap (λ a. a.refusal) e, ap (λ a. a.verdict) e, b) at w; short = s (omega arith) })
 
   pub turn_end : found ≡ NoMore → Exactly line (text_of (end count)) → Turned ws left at count found ws line
   unfolding text_of
@@ -76,7 +78,7 @@ pub record Going (journal ws out : List ℕ) (used at count : ℕ) : Type 0 wher
   pub printed : take used out ++ text_of_all (lines_from (suc count) ws (rest journal at count).records ++ (last_line (read_journal journal).records (read_journal journal).ending ∷ [])) ≡ text_of_all (output journal)
   pub leaves : (before : List ℕ) → final ws (rest journal at count).records ≡ left_by before journal
 
-pub going_start : (ws : List ℕ) {journal vs out : List ℕ} {answer : Answer} → length ws ≡ state_length → Gives (start ws) (answer_of answer) vs → length journal ≤ journal_limit → length out ≡ room → Going journal vs out 0 0 0
+pub going_start : (ws : List ℕ) {journal vs out : List ℕ} {told : model.Answer} → length ws ≡ state_length → Gives (start ws) told vs → length journal ≤ journal_limit → length out ≡ room → Going journal vs out 0 0 0
 unfolding start output left_by
 going_start ws {journal} n v l m =
     let e : length journal - 0 ≡ length journal = omega arith in

@@ -6,7 +6,7 @@ use Rattle.journal.specs.declared.Found.{Found}
 use Rattle.journal.specs.declared.Found.TheVariants.{NoMore, Whole, Partial}
 use Rattle.lines.specs.Text.{text_of}
 use Rattle.lines.specs.Written.{Exactly}
-use Rattle.lines.specs.declared.Buffer.{Buffer}
+use Rattle.lines.specs.declared.buffer.Buffer.{Buffer}
 
 -- the line that is printed behind so many records; left is the bytes from the place on
 abbrev pub line_at : List ℕ → List ℕ → ℕ → ℕ → Found → Line

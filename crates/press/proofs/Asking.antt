@@ -1,11 +1,6 @@
 -- The owner's question to the desk: when it is turned away, and that it changes no word.
-use mathlib.Core.Path.{◌≡◌, ap, sym, ◌∙◌}
-use mathlib.Core.Logic.{◌⊎◌, inl, inr, ◌↔◌}
-use mathlib.Core.Bool.{true, not}
-use mathlib.Core.List.{List}
-use Prim.Native.Nat.{ℕ}
-use lib.Dec.{eqb}
-use borrow.Author.Tests.{eq-eqb, ne_eqb, eqb-true, not-true}
+use Rattle.std.proofs.Common.{◌≡◌, ap, sym, ◌∙◌, ◌⊎◌, inl, inr, ◌↔◌, true, not, List, ℕ, eqb, eq-eqb, ne_eqb, eqb-true}
+use borrow.Author.Tests.{not-true}
 use Rattle.bits.proofs.Booleans.{clash, or_left, or_right, or_cases}
 use Rattle.mtas.specs.Answer.{Answer}
 use Rattle.mtas.specs.Call.{CheckAccess}

@@ -1,11 +1,5 @@
 -- Which error is given, and what is left then.
-use mathlib.Core.Path.{◌≡◌, refl, ap, sym, subst, ◌∙◌}
-use mathlib.Core.Logic.{◌≢◌}
-use mathlib.Core.Bool.{Bool, true, false}
-use mathlib.Core.List.{List}
-use Prim.Native.Nat.{ℕ}
-use native.Mathlib.Omega.{arith}
-use lib.ListN.{get_or, set}
+use Rattle.std.proofs.Common.{◌≡◌, refl, ap, sym, subst, ◌∙◌, ◌≢◌, Bool, true, false, List, ℕ, arith, get_or, set}
 use Rattle.bits.proofs.Booleans.{clash}
 use Rattle.press.specs.Stages.{Next, to, wrong_stage, next_stage}
 use Rattle.press.specs.Acted.{Result, ends_in, misfit, turned_away, moved, acted, act}

@@ -1,13 +1,8 @@
 -- What an action needs, what it changes, and whom a press obeys.
-use mathlib.Core.Path.{◌≡◌, refl, ap, sym, subst, ◌∙◌}
-use mathlib.Core.Logic.{◌↔◌, ◌≢◌}
-use mathlib.Core.List.{List, [], ◌∷◌}
+use Rattle.std.proofs.Common.{◌≡◌, refl, ap, sym, subst, ◌∙◌, ◌↔◌, ◌≢◌, List, [], ◌∷◌, ℕ, suc, ◌<◌, arith, length, get_or, length-set, get_or-set_same, get_or-set_other}
 use mathlib.Core.Option.{some}
-use Prim.Native.Nat.{ℕ, suc, ◌<◌}
 use native.Mathlib.Decide.{ℕ_discrete}
-use native.Mathlib.Omega.{arith}
-use lib.ListN.{length, get_or, length-set, get_elem?}
-use lib.Seq.{get_or-set_same, get_or-set_other}
+use lib.ListN.{get_elem?}
 use Rattle.mtas.specs.Chain.{Chain}
 use Rattle.mtas.specs.Layout.{view}
 use Rattle.mtas.proofs.Chain.{chains}

@@ -1,28 +1,26 @@
 -- The test for error 17 says its causes.
-use mathlib.Core.Path.{◌≡◌, refl, ap}
-use mathlib.Core.Logic.{◌⊎◌, inl, inr, ◌≢◌}
-use mathlib.Core.Bool.{Bool, true, false, not}
-use mathlib.Core.List.{List, [], ◌∷◌}
-use Prim.Native.Nat.{ℕ, ◌<◌, ◌≤◌}
+use Rattle.std.proofs.Common.{sym, ◌≡◌, refl, ap, ◌⊎◌, inl, inr, ◌≢◌, Bool, true, false, not, List, [], ◌∷◌, ℕ, ◌<◌, ◌≤◌, arith, eqb, ltb, length, get_or, eq-eqb, ne_eqb, lt-ltb, ltb-true}
 use native.Mathlib.Decide.{ℕ_discrete}
-use native.Mathlib.Omega.{arith}
-use lib.Dec.{eqb, ltb}
-use lib.ListN.{length, get_or, get_or-eq_default}
-use borrow.Author.Tests.{eq-eqb, ne_eqb, lt-ltb, ltb-true, not-true}
+use lib.ListN.{get_or-eq_default}
+use borrow.Author.Tests.{not-true}
 use Rattle.bits.proofs.Booleans.{clash, or_left, or_right, below_or_not}
-use Rattle.bits.proofs.Below.{any_intro, any_elim}
+use Rattle.std.proofs.lemmas.List.Folds.{Any-from_list_any, list_any_at}
+use Rattle.std.proofs.lemmas.List.{get_or_read_under}
 use Rattle.press.specs.Acted.{some_above, some_of, misfit}
 use Rattle.press.specs.Errors.{Misfit, owners_not_32, stages_not_32, press_above_31, action_above_4, owner_above_15, stage_above_3}
 use Rattle.press.specs.Laws.{Fits}
 
 pub above_elim : (n : ℕ) (l : List ℕ) → some_above n l ≡ true → (k : ℕ) × (n < get_or l k 0)
-above_elim n l h = let (k, m, p) = any_elim (length l) (λ k. ltb n (get_or l k 0)) h in (k, ltb-true n _ p)
+above_elim n l h =
+    let (k, x, m, e, p) = Any-from_list_any (λ b. ltb n b) l h in
+    let f : x ≡ get_or l k 0 = get_or_read_under l k (length l) x 0 (sym e) m refl in
+    (k, ltb-true n _ (rw f at p))
 
 above_intro : (n : ℕ) (l : List ℕ) (k : ℕ) → n < get_or l k 0 → some_above n l ≡ true
 above_intro n l k h = go (below_or_not k (length l))
   where
     go : (k < length l) ⊎ (length l ≤ k) → some_above n l ≡ true
-    go (inl m) = any_intro (length l) (λ k. ltb n (get_or l k 0)) k m (lt-ltb n _ h)
+    go (inl m) = list_any_at (λ b. ltb n b) l k 0 m (lt-ltb n _ h)
     go (inr m) = absurd (omega (arith, get_or-eq_default l 0 m))
 
 unequal : (n m : ℕ) → not (eqb n m) ≡ true → n ≢ m

@@ -1,14 +1,8 @@
 -- The table of the actions and the card's sentence are one.
-use mathlib.Core.Path.{◌≡◌, refl, sym, subst, ◌∙◌}
-use mathlib.Core.Bool.{Bool, true, false, ◌&&◌}
-use mathlib.Core.List.{List, [], ◌∷◌}
-use Prim.Native.Nat.{ℕ, ◌≤◌}
-use native.Mathlib.Omega.{arith}
-use lib.Dec.{eqb}
-use borrow.Author.Tests.{eqb-true}
+use Rattle.std.proofs.Common.{◌≡◌, refl, sym, subst, ◌∙◌, Bool, true, false, ◌&&◌, List, [], ◌∷◌, ℕ, eqb, eqb-true}
 use Rattle.bits.proofs.Booleans.{and_both}
 use Rattle.mtas.proofs.Step.{differ}
-use Rattle.press.specs.Stages.{Move, moves, Next, to, wrong_stage, next_in, next_stage}
+use Rattle.press.specs.Stages.{Move, moves, to, wrong_stage, next_in, next_stage}
 use Rattle.press.specs.Errors.{Leads, loads, starts, pauses, resumes, empties_loaded, empties_held, WrongStage}
 
 leads-next : {a s t : ℕ} → Leads a s t → next_stage a s ≡ to t
@@ -42,19 +36,3 @@ next-leads = found moves (loads, (starts, (pauses, (resumes, (empties_loaded, (e
 
 pub nowhere : (a s : ℕ) → next_stage a s ≡ wrong_stage → WrongStage a s
 nowhere a s h t l = let e : to t ≡ wrong_stage = sym (leads-next l) ∙ h in differ (cc)
-
-pub unled : (a s : ℕ) → WrongStage a s → next_stage a s ≡ wrong_stage
-unled a s w = go (next_stage a s) refl
-  where
-    go : (n : Next) → next_stage a s ≡ n → next_stage a s ≡ wrong_stage
-    go (to t) e = absurd (w t (next-leads a s t e))
-    go wrong_stage e = e
-
--- there are five actions
-pub known : {a s t : ℕ} → Leads a s t → a ≤ 4
-known loads = omega arith
-known starts = omega arith
-known pauses = omega arith
-known resumes = omega arith
-known empties_loaded = omega arith
-known empties_held = omega arith

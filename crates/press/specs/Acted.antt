@@ -1,6 +1,6 @@
 -- What an action on a press is answered, and what it leaves (Card 6).
 use Rattle.std.specs.Prelude.{Bool, true, false, not, ◌||◌, List, [], ◌∷◌, ℕ, eqb, ltb, length, get_or, set}
-use Rattle.bits.specs.Below.{any_below}
+use Rattle.std.specs.List.{list_any}
 use Rattle.mtas.specs.Answer.{Answer}
 use Rattle.mtas.specs.Call.{CheckAccess}
 use Rattle.mtas.specs.Record.{encode_call}
@@ -9,7 +9,7 @@ use Rattle.press.specs.Stages.{Next, to, wrong_stage, next_stage}
 
 -- some byte of the list is above n
 abbrev pub some_above : ℕ → List ℕ → Bool
-some_above n l = any_below (length l) (λ k. ltb n (get_or l k 0))
+some_above n l = list_any (λ b. ltb n b) l
 
 -- some test of the list is true
 abbrev pub some_of : List Bool → Bool

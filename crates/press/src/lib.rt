@@ -3,64 +3,32 @@
 
 ghost use Rattle.std.specs.Prelude.{◌≡◌};
 ghost use Rattle.mtas.specs.Monitor.{monitor};
-ghost use Rattle.press.specs.Stages.{next_stage};
 ghost use Rattle.press.specs.Acted.{some_above, misfit, question, turned_away, ends_in, act};
-ghost use Rattle.press.specs.Contract.{next_of, to_where};
+ghost use Rattle.press.specs.Contract.{action_number, number_of, error_of};
 
 use record::Slots;
+use stage::{Action, Stage};
+
+mod stage;
 
 const PRESSES: usize = 32;
-
-const IDLE: u8 = 0;
-
-const LOADED: u8 = 1;
-
-const PRESSING: u8 = 2;
-
-const HELD: u8 = 3;
-
-const LOAD: u8 = 0;
-
-const START: u8 = 1;
-
-const PAUSE: u8 = 2;
-
-const RESUME: u8 = 3;
-
-const EMPTY: u8 = 4;
 
 // Kind 21: may a session use the caller's own permission?
 const CHECK_ACCESS: u16 = 21;
 
-// The stage that an action leads to.
-#[derive(Clone, Copy)]
-enum Next {
-    To(u8),
-    WrongStage,
+// Why an action on a press doesn't go ahead, with the card's numbers.
+#[derive(Clone, Copy, Debug, PartialEq, Eq)]
+pub enum Error {
+    Misfit = 17,
+    TurnedAway = 18,
+    WrongStage = 19,
 }
 
-// To a stage, where the press's is right.
-fn when(right: bool, to: u8) -> Next
-    ensures { next_of result ≡ to_where right to }
-{
-    if right {
-        Next::To(to)
-    } else {
-        Next::WrongStage
-    }
-}
+impl From<Error> for u16 {
+    ghost from_gives = { λ e n. n ≡ number_of e };
 
-// The actions, a line for each.
-fn next_stage(action: u8, stage: u8) -> Next
-    ensures { next_of result ≡ next_stage action stage }
-{
-    match action {
-        LOAD => when(stage == IDLE, LOADED),
-        START => when(stage == LOADED, PRESSING),
-        PAUSE => when(stage == PRESSING, HELD),
-        RESUME => when(stage == HELD, PRESSING),
-        EMPTY => when((stage == LOADED) | (stage == HELD), IDLE),
-        _ => Next::WrongStage,
+    fn from(e: Error) -> u16 {
+        e as u16
     }
 }
 
@@ -68,33 +36,19 @@ fn next_stage(action: u8, stage: u8) -> Next
 fn some_above(limit: u8, bytes: &[u8]) -> bool
     ensures { result ≡ some_above limit bytes.now }
 {
-    let mut found = false;
-    for k in 0..bytes.len() {
-        found = found | (limit < bytes[k]);
-    }
-    found
+    bytes.iter().any(|&b| limit < b)
 }
 
-// Error 17: lists that aren't the owners and stages of 32 presses, a press that isn't there, an action that isn't one.
-fn misfit(owners: &[u8], stages: &[u8], press: u8, action: u8) -> bool
-    ensures { result ≡ misfit owners.now stages.now press action }
+// Error 17, but for an action that isn't one: lists that aren't the owners and stages of 32 presses, a press that isn't there.
+#[tactic(auto, unfolding(crate::specs::Acted::misfit))]
+fn misfit(owners: &[u8], stages: &[u8], press: u8) -> bool
+    ensures { (a : Action) → result ≡ misfit owners.now stages.now press (action_number a) }
 {
-    if owners.len() != PRESSES {
-        return true;
-    }
-    if stages.len() != PRESSES {
-        return true;
-    }
-    if press > 31 {
-        return true;
-    }
-    if action > EMPTY {
-        return true;
-    }
-    if some_above(15, owners) {
-        return true;
-    }
-    some_above(HELD, stages)
+    owners.len() != PRESSES
+        || stages.len() != PRESSES
+        || press > 31
+        || some_above(15, owners)
+        || some_above(Stage::Held as u8, stages)
 }
 
 // Whether the desk turns the owner's question away. It leaves every word of the state.
@@ -102,24 +56,19 @@ fn turned_away(state: &mut [u16], owner: u8, action: u8, issuer: u8, session: u8
     ensures value { result ≡ turned_away (monitor state.old (question owner action issuer session)).answer }
     ensures state_unchanged { state.new ≡ state.old }
 {
-    let made = record::record_of(
-        CHECK_ACCESS,
-        owner,
-        3,
-        Slots {
-            x: action,
-            y: issuer,
-            z: session,
-        },
-    );
-    let len = made.len;
-    let bytes = made.bytes;
-    let answer = monitor::call(state, &bytes[..len]);
-    (answer.verdict == 0) | (answer.refusal != 0)
+    let slots = Slots {
+        x: action,
+        y: issuer,
+        z: session,
+    };
+    let made = record::record_of(CHECK_ACCESS, owner, 3, slots);
+    let outcome = monitor::call(state, made.as_slice());
+    !matches!(outcome, Ok(Some(_)))
 }
 
-// An action on a press for the session issuer/session: lists of any bytes and any length, on a state of any words and any length.
-// 0 where it goes ahead; else the error, and nothing has changed. The state never changes.
+// An action on a press for the session issuer/session: on a state of any words and any length, with lists of any bytes and any length.
+// The lists stay bytes, and the numbers numbers, since C lends and passes them.
+// On an error nothing has changed. The state never changes.
 pub fn act(
     state: &mut [u16],
     owners: &[u8],
@@ -128,19 +77,19 @@ pub fn act(
     action: u8,
     issuer: u8,
     session: u8,
-) -> u16
-    ensures { act state.old owners.now stages.old press action issuer session ≡ ends_in result stages.new state.new }
+) -> Result<(), Error>
+    ensures { act state.old owners.now stages.old press action issuer session ≡ ends_in (error_of result) stages.new state.new }
 {
-    if misfit(owners, stages, press, action) {
-        return 17;
+    let wanted = Action::try_from(action)?;
+    if misfit(owners, stages, press) {
+        return Err(Error::Misfit);
     }
     let at = press as usize;
+    let stage = Stage::try_from(stages[at])?;
     if turned_away(state, owners[at], action, issuer, session) {
-        return 18;
+        return Err(Error::TurnedAway);
     }
-    let Next::To(stage) = next_stage(action, stages[at]) else {
-        return 19;
-    };
-    stages[at] = stage;
-    0
+    let next = stage::next_stage(wanted, stage).ok_or(Error::WrongStage)?;
+    stages[at] = u8::from(next);
+    Ok(())
 }

@@ -1,13 +1,7 @@
 -- The model's `decode` of the bytes b, from what the code's tests say of them.
-use mathlib.Core.Path.{◌≡◌, refl, ap, sym, ◌∙◌}
+use Rattle.std.proofs.Common.{◌≡◌, refl, ap, sym, ◌∙◌, List, [], ◌∷◌, ℕ, ◌-◌, ◌≤◌, arith, le-leb, eq-eqb, ne_eqb, leb, length, take, drop}
 use mathlib.Core.Bool.{and-false}
-use mathlib.Core.List.{List, [], ◌∷◌}
-use Prim.Native.Nat.{ℕ, ◌-◌, ◌≤◌}
-use native.Mathlib.Omega.{arith}
-use borrow.Author.Tests.{le-leb, eq-eqb, ne_eqb}
 use borrow.Author.Rules.{part_to_end}
-use lib.Dec.{leb}
-use lib.ListN.{length, take, drop}
 use Rattle.mtas.specs.Record.{Request, sign_of_life, undecodable, bytes_refusal, kind_at, fill, header, two_bytes, kind_of, caller_of, decode_bytes, decode}
 use Rattle.mtas.proofs.Record.{decode_is}
 use Rattle.record.specs.Decoded.{request_of, Decodes}
@@ -34,6 +28,6 @@ module _ (b : List ℕ) (h : header ≤ length b) where
 
 -- what the request is, the refusal follows
 pub decodes : {b : List ℕ} (d : Decoded) → request_of d ≡ decode b → Decodes b d
-decodes (Requested c k) e = record { same_refusal = ap bytes_refusal e; same_request = e }
+decodes (Requested r) e = record { same_refusal = ap bytes_refusal e; same_request = e }
 decodes Undecodable e = record { same_refusal = ap bytes_refusal e; same_request = e }
 decodes SignOfLife e = record { same_refusal = ap bytes_refusal e; same_request = e }

@@ -1,4 +1,3 @@
-mod Forms
 mod Bytes
 pub mod Padding
 pub mod Within

@@ -1,9 +1,5 @@
 -- Zeros after a call's arguments put none above 15.
-use mathlib.Core.Path.{◌≡◌, refl, ap}
-use mathlib.Core.Bool.{Bool, true, false}
-use mathlib.Core.List.{List, [], ◌∷◌}
-use Prim.Native.Nat.{ℕ, zero, suc}
-use lib.Dec.{ltb}
+use Rattle.std.proofs.Common.{◌≡◌, refl, ap, Bool, true, false, List, [], ◌∷◌, ℕ, zero, suc, ltb}
 use Rattle.mtas.specs.Call.{Call, arguments}
 use Rattle.mtas.specs.Fact.{above_15}
 use Rattle.record.specs.Padding.{padded, Padded}

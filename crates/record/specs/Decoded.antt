@@ -1,13 +1,11 @@
 -- What the code's types say, in the model's terms.
-use Rattle.std.specs.Prelude.{◌≡◌, true, false, List, ℕ, eqb, length, get_or}
+use Rattle.std.specs.Prelude.{◌≡◌, true, false, List, ℕ, Option, Some, None, eqb, length, get_or}
 use Rattle.mtas.specs.Call as model
 use Rattle.mtas.specs.Record.{Request, request, undecodable, sign_of_life, bytes_refusal, kind_at, fill, decode}
 use Rattle.record.specs.declared.Call.{Call}
 use Rattle.record.specs.declared.Call.TheVariants.{AddIssuer, RemoveIssuer, AssignTrust, RevokeTrust, AddUser, RemoveUser, AddRole, RemoveRole, AddPerm, RemovePerm, AssignUser, RevokeUser, AssignPerm, RevokePerm, AssignRH, RevokeRH, CreateSession, DeleteSession, AddActiveRole, DropActiveRole, CheckAccess, PublishRole, UnpublishRole}
 use Rattle.record.specs.declared.Decoded.{Decoded}
 use Rattle.record.specs.declared.Decoded.TheVariants.{Request as Requested, Undecodable, SignOfLife}
-use Rattle.record.specs.declared.Kind.{Kind}
-use Rattle.record.specs.declared.Kind.TheVariants.{Unknown, Known}
 
 -- the model's call of the same name and arguments
 abbrev pub call_of : Call → model.Call
@@ -37,13 +35,13 @@ call_of (UnpublishRole r) = model.UnpublishRole r
 
 -- a decoded record as the model has it
 abbrev pub request_of : Decoded → Request
-request_of (Requested c k) = request c (call_of k)
+request_of (Requested r) = request r.caller (call_of r.call)
 request_of Undecodable = undecodable
 request_of SignOfLife = sign_of_life
 
 -- document 01's number for it: 3 where it can't be decoded, else 0
 abbrev pub refusal_of : Decoded → ℕ
-refusal_of (Requested c k) = 0
+refusal_of (Requested r) = 0
 refusal_of Undecodable = 3
 refusal_of SignOfLife = 0
 
@@ -52,11 +50,11 @@ pub record Decodes (b : List ℕ) (d : Decoded) : Type 0 where
   pub same_refusal : refusal_of d ≡ bytes_refusal (decode b)
   pub same_request : request_of d ≡ decode b
 
--- the request of a caller with a kind and n arguments
-abbrev pub filled : ℕ → Kind → ℕ → Request
-filled c Unknown n = undecodable
-filled c (Known m k) n = elim (eqb n m) [ true ↦ request c (call_of k) | false ↦ undecodable ]
+-- the request of a caller with n arguments, of a kind that has so many and makes this call
+abbrev pub filled : ℕ → Option (ℕ × Call) → ℕ → Request
+filled c None n = undecodable
+filled c (Some k) n = elim (eqb n k.0) [ true ↦ request c (call_of k.1) | false ↦ undecodable ]
 
 -- r is the model's kind k, with any arguments l that begin with x, y and z (0 where there are fewer)
-pub record Formed (k x y z : ℕ) (r : Kind) : Type 0 where
+pub record Formed (k x y z : ℕ) (r : Option (ℕ × Call)) : Type 0 where
   pub fills : (c : ℕ) (l : List ℕ) → x ≡ get_or l 0 0 → y ≡ get_or l 1 0 → z ≡ get_or l 2 0 → filled c r (length l) ≡ fill c (kind_at k) l

@@ -1,4 +1,4 @@
-// The call record: its bytes decoded into a caller and one of twenty-three calls, a call's arguments, and bytes encoded.
+// The call record: its bytes decoded into a request, a caller and one of twenty-three calls, a call's arguments, and bytes encoded.
 #![tactic(auto)]
 
 ghost use Rattle.std.specs.Prelude.{◌≡◌, [], ◌∷◌, ◌≤◌, take};
@@ -6,6 +6,10 @@ ghost use Rattle.mtas.specs.Record.{kind_at, fill, record_of};
 ghost use Rattle.record.specs.Decoded.{call_of, request_of, Decodes, Formed};
 ghost use Rattle.record.specs.Padding.{Padded};
 ghost use Rattle.record.specs.Encoded.{Holds};
+
+pub use encoded::Encoded;
+
+mod encoded;
 
 // The bytes before the arguments: length, kind and caller.
 pub const HEADER: usize = 5;
@@ -38,50 +42,50 @@ pub enum Call {
     UnpublishRole(u8),
 }
 
-// A caller and its call, a record of refusal 3's row, or a record of no bytes, a press's sign of life.
+// A caller and what it calls.
+#[derive(Clone, Copy)]
+pub struct Request {
+    pub caller: u8,
+    pub call: Call,
+}
+
+// A request, a record of refusal 3's row, or a record of no bytes, a press's sign of life.
 #[derive(Clone, Copy)]
 pub enum Decoded {
-    Request(u8, Call),
+    Request(Request),
     Undecodable,
     SignOfLife,
 }
 
-// How many arguments a kind has, and its call with them.
-#[derive(Clone, Copy)]
-enum Kind {
-    Unknown,
-    Known(usize, Call),
-}
-
-// The kinds, a line for each. Of the arguments x, y and z a kind takes as many as it has.
-fn kind_at(kind: u16, x: u8, y: u8, z: u8) -> Kind
+// The kinds, a line for each: how many arguments it has, and its call with as many of x, y and z.
+fn kind_at(kind: u16, x: u8, y: u8, z: u8) -> Option<(usize, Call)>
     ensures { Formed kind x y z result }
 {
     match kind {
-        1 => Kind::Known(1, Call::AddIssuer(x)),
-        2 => Kind::Known(1, Call::RemoveIssuer(x)),
-        3 => Kind::Known(1, Call::AssignTrust(x)),
-        4 => Kind::Known(1, Call::RevokeTrust(x)),
-        5 => Kind::Known(1, Call::AddUser(x)),
-        6 => Kind::Known(1, Call::RemoveUser(x)),
-        7 => Kind::Known(1, Call::AddRole(x)),
-        8 => Kind::Known(1, Call::RemoveRole(x)),
-        9 => Kind::Known(1, Call::AddPerm(x)),
-        10 => Kind::Known(1, Call::RemovePerm(x)),
-        11 => Kind::Known(2, Call::AssignUser(x, y)),
-        12 => Kind::Known(2, Call::RevokeUser(x, y)),
-        13 => Kind::Known(3, Call::AssignPerm(x, y, z)),
-        14 => Kind::Known(3, Call::RevokePerm(x, y, z)),
-        15 => Kind::Known(3, Call::AssignRH(x, y, z)),
-        16 => Kind::Known(3, Call::RevokeRH(x, y, z)),
-        17 => Kind::Known(2, Call::CreateSession(x, y)),
-        18 => Kind::Known(1, Call::DeleteSession(x)),
-        19 => Kind::Known(2, Call::AddActiveRole(x, y)),
-        20 => Kind::Known(2, Call::DropActiveRole(x, y)),
-        21 => Kind::Known(3, Call::CheckAccess(x, y, z)),
-        22 => Kind::Known(1, Call::PublishRole(x)),
-        23 => Kind::Known(1, Call::UnpublishRole(x)),
-        _ => Kind::Unknown,
+        1 => Some((1, Call::AddIssuer(x))),
+        2 => Some((1, Call::RemoveIssuer(x))),
+        3 => Some((1, Call::AssignTrust(x))),
+        4 => Some((1, Call::RevokeTrust(x))),
+        5 => Some((1, Call::AddUser(x))),
+        6 => Some((1, Call::RemoveUser(x))),
+        7 => Some((1, Call::AddRole(x))),
+        8 => Some((1, Call::RemoveRole(x))),
+        9 => Some((1, Call::AddPerm(x))),
+        10 => Some((1, Call::RemovePerm(x))),
+        11 => Some((2, Call::AssignUser(x, y))),
+        12 => Some((2, Call::RevokeUser(x, y))),
+        13 => Some((3, Call::AssignPerm(x, y, z))),
+        14 => Some((3, Call::RevokePerm(x, y, z))),
+        15 => Some((3, Call::AssignRH(x, y, z))),
+        16 => Some((3, Call::RevokeRH(x, y, z))),
+        17 => Some((2, Call::CreateSession(x, y))),
+        18 => Some((1, Call::DeleteSession(x))),
+        19 => Some((2, Call::AddActiveRole(x, y))),
+        20 => Some((2, Call::DropActiveRole(x, y))),
+        21 => Some((3, Call::CheckAccess(x, y, z))),
+        22 => Some((1, Call::PublishRole(x))),
+        23 => Some((1, Call::UnpublishRole(x))),
+        _ => None,
     }
 }
 
@@ -93,14 +97,8 @@ fn fill(caller: u8, kind: u16, bytes: &[u8]) -> Decoded
     let y = bits::byte_at(bytes, 1);
     let z = bits::byte_at(bytes, 2);
     match kind_at(kind, x, y, z) {
-        Kind::Unknown => Decoded::Undecodable,
-        Kind::Known(count, call) => {
-            if bytes.len() == count {
-                Decoded::Request(caller, call)
-            } else {
-                Decoded::Undecodable
-            }
-        }
+        Some((count, call)) if bytes.len() == count => Decoded::Request(Request { caller, call }),
+        _ => Decoded::Undecodable,
     }
 }
 
@@ -134,54 +132,39 @@ pub fn arguments(call: Call) -> Slots
     ensures { Padded (call_of call) result.x result.y result.z }
 {
     match call {
-        Call::AddIssuer(x) => Slots { x, y: 0, z: 0 },
-        Call::RemoveIssuer(x) => Slots { x, y: 0, z: 0 },
-        Call::AssignTrust(x) => Slots { x, y: 0, z: 0 },
-        Call::RevokeTrust(x) => Slots { x, y: 0, z: 0 },
-        Call::AddUser(x) => Slots { x, y: 0, z: 0 },
-        Call::RemoveUser(x) => Slots { x, y: 0, z: 0 },
-        Call::AddRole(x) => Slots { x, y: 0, z: 0 },
-        Call::RemoveRole(x) => Slots { x, y: 0, z: 0 },
-        Call::AddPerm(x) => Slots { x, y: 0, z: 0 },
-        Call::RemovePerm(x) => Slots { x, y: 0, z: 0 },
-        Call::AssignUser(x, y) => Slots { x, y, z: 0 },
-        Call::RevokeUser(x, y) => Slots { x, y, z: 0 },
-        Call::AssignPerm(x, y, z) => Slots { x, y, z },
-        Call::RevokePerm(x, y, z) => Slots { x, y, z },
-        Call::AssignRH(x, y, z) => Slots { x, y, z },
-        Call::RevokeRH(x, y, z) => Slots { x, y, z },
-        Call::CreateSession(x, y) => Slots { x, y, z: 0 },
-        Call::DeleteSession(x) => Slots { x, y: 0, z: 0 },
-        Call::AddActiveRole(x, y) => Slots { x, y, z: 0 },
-        Call::DropActiveRole(x, y) => Slots { x, y, z: 0 },
-        Call::CheckAccess(x, y, z) => Slots { x, y, z },
-        Call::PublishRole(x) => Slots { x, y: 0, z: 0 },
-        Call::UnpublishRole(x) => Slots { x, y: 0, z: 0 },
+        Call::AddIssuer(x)
+        | Call::RemoveIssuer(x)
+        | Call::AssignTrust(x)
+        | Call::RevokeTrust(x)
+        | Call::AddUser(x)
+        | Call::RemoveUser(x)
+        | Call::AddRole(x)
+        | Call::RemoveRole(x)
+        | Call::AddPerm(x)
+        | Call::RemovePerm(x)
+        | Call::DeleteSession(x)
+        | Call::PublishRole(x)
+        | Call::UnpublishRole(x) => Slots { x, y: 0, z: 0 },
+        Call::AssignUser(x, y)
+        | Call::RevokeUser(x, y)
+        | Call::CreateSession(x, y)
+        | Call::AddActiveRole(x, y)
+        | Call::DropActiveRole(x, y) => Slots { x, y, z: 0 },
+        Call::AssignPerm(x, y, z)
+        | Call::RevokePerm(x, y, z)
+        | Call::AssignRH(x, y, z)
+        | Call::RevokeRH(x, y, z)
+        | Call::CheckAccess(x, y, z) => Slots { x, y, z },
     }
 }
 
-// An encoded record: its first len bytes.
-#[derive(Clone, Copy)]
-pub struct Encoded {
-    pub bytes: [u8; 8],
-    pub len: usize,
-}
-
-// The record of a kind and a caller, with the first count of three arguments.
+// The record of a kind and a caller, with the first count of three arguments. The kind is a number, as the record has it.
 pub fn record_of(kind: u16, caller: u8, count: usize, slots: Slots) -> Encoded
     requires { count ≤ 3 }
     ensures { Holds result (record_of kind caller (take count (slots.x ∷ slots.y ∷ slots.z ∷ []))) }
 {
     let len = HEADER + count;
-    let bytes = [
-        len as u8,
-        0,
-        (kind % 256) as u8,
-        (kind / 256) as u8,
-        caller,
-        slots.x,
-        slots.y,
-        slots.z,
-    ];
+    let [low, high] = kind.to_le_bytes();
+    let bytes = [len as u8, 0, low, high, caller, slots.x, slots.y, slots.z];
     Encoded { bytes, len }
 }

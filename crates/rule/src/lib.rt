@@ -1,26 +1,74 @@
 // The table of the calls as data (document 01, 'When a call is turned down'): the causes of refusal in order, and the effect.
 #![tactic(auto)]
 
-ghost use Rattle.std.specs.Prelude.{[], ◌∷◌};
+ghost use Rattle.std.specs.Prelude.{◌≡◌, ℕ, ◌≤◌, [], ◌∷◌, length, map, slice_get};
+ghost use Rattle.mtas.specs.Fact.{role};
+ghost use Rattle.mtas.specs.Needs.{exposed};
+ghost use Rattle.mtas.specs.Rule.{absent, link_causes, may_call, rule};
 ghost use Rattle.mtas.specs.Layout.{view};
-ghost use Rattle.mtas.specs.LawTest.{LawfulWords};
 ghost use Rattle.record.specs.Decoded.{call_of};
-ghost use Rattle.rule.specs.Table.{Exposing, IsRow, IsLink, IsOwnRole, IsWhose, MayCall, IsEffect};
+ghost use Rattle.facts.specs.Table.{fact_of};
+ghost use Rattle.rule.specs.Refusal.{number_of};
+ghost use Rattle.rule.specs.Table.{guard_of, guards_of, whose_of, effect_of, row_of};
 
-use Guard::{Absent, Passed, Present, Reached, Unauthorized, Wrong};
-use facts::{Fact, user_of};
-use record::Call;
+use Guard::{Absent, Present, Reached, Unauthorized, Wrong};
+use Refusal::{
+    Circle, Enrolment, ItsOwnIssuer, Missing, NotPublic, NotReached, NothingToChange, Untrusted,
+};
+use facts::{Fact, Lawful, user_of};
+use record::{Call, Request};
+use std::array;
 
-// A cause of refusal, with its number, or none.
+// Why a call is turned down, by document 01's numbers; 14 is document 02's.
+#[derive(Clone, Copy, Debug, PartialEq, Eq)]
+pub enum Refusal {
+    // The state is not of a state's length.
+    StateLength = 1,
+    // The state is not lawful.
+    Unlawful,
+    // The record can't be decoded.
+    Undecodable,
+    // It is not this caller's to call.
+    NotItsCaller,
+    // The calling issuer is not enrolled.
+    NotEnrolled,
+    // An argument is above 15.
+    Above15,
+    // The named issuer is enrolled already, or is not.
+    Enrolment,
+    // The caller names itself.
+    ItsOwnIssuer,
+    // The named issuer doesn't trust the caller.
+    Untrusted,
+    // A named user, role or permission is absent, or the session is closed.
+    Missing,
+    // No role that the user holds reaches the role.
+    NotReached,
+    // It is already there, open or active, or is not there.
+    NothingToChange,
+    // The junior reaches the senior already, or is it.
+    Circle,
+    // Across estates, the role or the senior is not public.
+    NotPublic,
+}
+
+impl From<Refusal> for u16 {
+    ghost from_gives = { λ e n. n ≡ number_of e };
+
+    fn from(refusal: Refusal) -> u16 {
+        refusal as u16
+    }
+}
+
+// A cause of refusal.
 #[derive(Clone, Copy)]
 pub enum Guard {
-    Passed,
-    Absent(u16, Fact),
-    Present(u16, Fact),
-    Wrong(u16, bool),
-    Reached(u16, u8, u8, u8, u8),
+    Absent(Refusal, Fact),
+    Present(Refusal, Fact),
+    Wrong(Refusal, bool),
+    Reached(Refusal, u8, u8, u8, u8),
     // No role that i@u holds reaches i#r.
-    Unauthorized(u16, u8, u16, u8),
+    Unauthorized(Refusal, u8, u16, u8),
 }
 
 // An effect: an issuer is enrolled, a fact is put or cut with all that needs it, or a question is decided.
@@ -33,163 +81,134 @@ pub enum Effect {
 }
 
 // What exposes i#r to c: of c's own roles that it is there, of another's that it is public.
+#[tactic(auto, unfolding(mtas::specs::Needs::exposed))]
 fn exposing(c: u8, i: u8, r: u8) -> Fact
-    ensures { Exposing c i r result }
+    ensures { fact_of result ≡ exposed c i r }
 {
     if c == i {
-        return Fact::Role(i, r);
+        Fact::Role(i, r)
+    } else {
+        Fact::Public(i, r)
     }
-    Fact::Public(i, r)
 }
 
-// What kinds 13 to 16 from c try, which link a thing of the caller's own to i#r; the last two are the row's.
-fn link(c: u8, i: u8, r: u8, own: Fact, x: Guard, y: Guard) -> [Guard; 7]
-    ensures { IsLink c i r own (x ∷ y ∷ []) result }
+// A row's causes in order. Without a heap each row has the longest one's length.
+pub type Row = [Option<Guard>; 7];
+
+fn row(causes: &[Guard]) -> Row
+    requires { length causes.now ≤ 7 }
+    ensures { guards_of result ≡ map guard_of causes.now }
+{
+    array::from_fn(
+        |k|
+            ensures { result ≡ slice_get causes.entry.now k }
+        { causes.get(k).copied() },
+    )
+}
+
+// What kinds 13 to 16 from c try, which link a thing of the caller's own to i#r; the last one or two are the row's.
+fn link(c: u8, i: u8, r: u8, own: Fact, x: Guard, y: Option<Guard>) -> Row
+    ensures { guards_of result ≡ link_causes c i r (fact_of own) (guards_of (Some x ∷ y ∷ [])) }
 {
     [
-        Absent(7, Fact::Enrolled(i)),
-        Absent(9, Fact::Trusts(i, c)),
-        Absent(10, own),
-        Absent(10, Fact::Role(i, r)),
-        Absent(14, exposing(c, i, r)),
-        x,
+        Some(Absent(Enrolment, Fact::Enrolled(i))),
+        Some(Absent(Untrusted, Fact::Trusts(i, c))),
+        Some(Absent(Missing, own)),
+        Some(Absent(Missing, Fact::Role(i, r))),
+        Some(Absent(NotPublic, exposing(c, i, r))),
+        Some(x),
         y,
     ]
 }
 
 // What kinds 22 and 23 from c try of its own role; the last is the row's.
-fn own_role(c: u8, role: u8, x: Guard) -> [Guard; 7]
-    ensures { IsOwnRole c role (x ∷ []) result }
+fn own_role(c: u8, r: u8, x: Guard) -> Row
+    ensures { guards_of result ≡ absent 10 (role c r) ∷ guard_of x ∷ [] }
 {
-    [
-        Absent(10, Fact::Role(c, role)),
-        x,
-        Passed,
-        Passed,
-        Passed,
-        Passed,
-        Passed,
-    ]
+    row(&[Absent(Missing, Fact::Role(c, r)), x])
 }
 
 // The causes of a call's own row.
-pub fn guards(state: &[u16], c: u8, call: Call) -> [Guard; 7]
-    requires { LawfulWords state.now }
-    ensures { IsRow (view state.now) c (call_of call) result }
+pub fn guards(state: Lawful, request: Request) -> Row
+    ensures { guards_of result ≡ (row_of (view state.entry.words.now) request).causes }
 {
-    let no = Passed;
-    match call {
-        Call::AddIssuer(i) => [Present(7, Fact::Enrolled(i)), no, no, no, no, no, no],
-        Call::RemoveIssuer(i) => [Absent(7, Fact::Enrolled(i)), no, no, no, no, no, no],
-        Call::AssignTrust(j) => [
-            Absent(7, Fact::Enrolled(j)),
-            Wrong(8, c == j),
-            Present(12, Fact::Trusts(c, j)),
-            no,
-            no,
-            no,
-            no,
-        ],
-        Call::RevokeTrust(j) => [
-            Absent(7, Fact::Enrolled(j)),
-            Wrong(8, c == j),
-            Absent(12, Fact::Trusts(c, j)),
-            no,
-            no,
-            no,
-            no,
-        ],
-        Call::AddUser(u) => [Present(12, Fact::User(c, u)), no, no, no, no, no, no],
-        Call::RemoveUser(u) => [Absent(10, Fact::User(c, u)), no, no, no, no, no, no],
-        Call::AddRole(r) => [Present(12, Fact::Role(c, r)), no, no, no, no, no, no],
-        Call::RemoveRole(r) => [Absent(10, Fact::Role(c, r)), no, no, no, no, no, no],
-        Call::AddPerm(p) => [Present(12, Fact::Permission(c, p)), no, no, no, no, no, no],
-        Call::RemovePerm(p) => [Absent(10, Fact::Permission(c, p)), no, no, no, no, no, no],
-        Call::AssignUser(u, r) => [
-            Absent(10, Fact::User(c, u)),
-            Absent(10, Fact::Role(c, r)),
-            Present(12, Fact::Holds(c, u as u16, r)),
-            no,
-            no,
-            no,
-            no,
-        ],
-        Call::RevokeUser(u, r) => [
-            Absent(10, Fact::User(c, u)),
-            Absent(10, Fact::Role(c, r)),
-            Absent(12, Fact::Holds(c, u as u16, r)),
-            no,
-            no,
-            no,
-            no,
-        ],
+    let c = request.caller;
+    match request.call {
+        Call::AddIssuer(i) => row(&[Present(Enrolment, Fact::Enrolled(i))]),
+        Call::RemoveIssuer(i) => row(&[Absent(Enrolment, Fact::Enrolled(i))]),
+        Call::AssignTrust(j) => row(&[
+            Absent(Enrolment, Fact::Enrolled(j)),
+            Wrong(ItsOwnIssuer, c == j),
+            Present(NothingToChange, Fact::Trusts(c, j)),
+        ]),
+        Call::RevokeTrust(j) => row(&[
+            Absent(Enrolment, Fact::Enrolled(j)),
+            Wrong(ItsOwnIssuer, c == j),
+            Absent(NothingToChange, Fact::Trusts(c, j)),
+        ]),
+        Call::AddUser(u) => row(&[Present(NothingToChange, Fact::User(c, u))]),
+        Call::RemoveUser(u) => row(&[Absent(Missing, Fact::User(c, u))]),
+        Call::AddRole(r) => row(&[Present(NothingToChange, Fact::Role(c, r))]),
+        Call::RemoveRole(r) => row(&[Absent(Missing, Fact::Role(c, r))]),
+        Call::AddPerm(p) => row(&[Present(NothingToChange, Fact::Permission(c, p))]),
+        Call::RemovePerm(p) => row(&[Absent(Missing, Fact::Permission(c, p))]),
+        Call::AssignUser(u, r) => row(&[
+            Absent(Missing, Fact::User(c, u)),
+            Absent(Missing, Fact::Role(c, r)),
+            Present(NothingToChange, Fact::Holds(c, u as u16, r)),
+        ]),
+        Call::RevokeUser(u, r) => row(&[
+            Absent(Missing, Fact::User(c, u)),
+            Absent(Missing, Fact::Role(c, r)),
+            Absent(NothingToChange, Fact::Holds(c, u as u16, r)),
+        ]),
         Call::AssignPerm(p, i, r) => {
-            let granted = Present(12, Fact::Granted(c, p, i, r));
-            link(c, i, r, Fact::Permission(c, p), granted, no)
+            let granted = Present(NothingToChange, Fact::Granted(c, p, i, r));
+            link(c, i, r, Fact::Permission(c, p), granted, None)
         }
         Call::RevokePerm(p, i, r) => {
-            let not_granted = Absent(12, Fact::Granted(c, p, i, r));
-            link(c, i, r, Fact::Permission(c, p), not_granted, no)
+            let not_granted = Absent(NothingToChange, Fact::Granted(c, p, i, r));
+            link(c, i, r, Fact::Permission(c, p), not_granted, None)
         }
         Call::AssignRH(q, i, r) => {
-            let attached = Present(12, Fact::Attached(c, q, i, r));
-            let circle = Reached(13, c, q, i, r);
-            link(c, i, r, Fact::Role(c, q), attached, circle)
+            let attached = Present(NothingToChange, Fact::Attached(c, q, i, r));
+            let circle = Reached(Circle, c, q, i, r);
+            link(c, i, r, Fact::Role(c, q), attached, Some(circle))
         }
         Call::RevokeRH(q, i, r) => {
-            let not_attached = Absent(12, Fact::Attached(c, q, i, r));
-            link(c, i, r, Fact::Role(c, q), not_attached, no)
+            let not_attached = Absent(NothingToChange, Fact::Attached(c, q, i, r));
+            link(c, i, r, Fact::Role(c, q), not_attached, None)
         }
-        Call::CreateSession(s, u) => [
-            Absent(10, Fact::User(c, u)),
-            Present(12, Fact::Opened(c, s, user_of(state, c, s))),
-            no,
-            no,
-            no,
-            no,
-            no,
-        ],
-        Call::DeleteSession(s) => [
-            Absent(10, Fact::Opened(c, s, user_of(state, c, s))),
-            no,
-            no,
-            no,
-            no,
-            no,
-            no,
-        ],
+        Call::CreateSession(s, u) => row(&[
+            Absent(Missing, Fact::User(c, u)),
+            Present(NothingToChange, Fact::Opened(c, s, user_of(state, c, s))),
+        ]),
+        Call::DeleteSession(s) => row(&[Absent(Missing, Fact::Opened(c, s, user_of(state, c, s)))]),
         Call::AddActiveRole(s, r) => {
             let user = user_of(state, c, s);
-            [
-                Absent(10, Fact::Role(c, r)),
-                Absent(10, Fact::Opened(c, s, user)),
-                Unauthorized(11, c, user, r),
-                Present(12, Fact::Active(c, s, user, r)),
-                no,
-                no,
-                no,
-            ]
+            row(&[
+                Absent(Missing, Fact::Role(c, r)),
+                Absent(Missing, Fact::Opened(c, s, user)),
+                Unauthorized(NotReached, c, user, r),
+                Present(NothingToChange, Fact::Active(c, s, user, r)),
+            ])
         }
         Call::DropActiveRole(s, r) => {
             let user = user_of(state, c, s);
-            [
-                Absent(10, Fact::Role(c, r)),
-                Absent(10, Fact::Opened(c, s, user)),
-                Absent(12, Fact::Active(c, s, user, r)),
-                no,
-                no,
-                no,
-                no,
-            ]
+            row(&[
+                Absent(Missing, Fact::Role(c, r)),
+                Absent(Missing, Fact::Opened(c, s, user)),
+                Absent(NothingToChange, Fact::Active(c, s, user, r)),
+            ])
         }
-        Call::CheckAccess(p, _, _) => [Absent(10, Fact::Permission(c, p)), no, no, no, no, no, no],
-        Call::PublishRole(r) => own_role(c, r, Present(12, Fact::Public(c, r))),
-        Call::UnpublishRole(r) => own_role(c, r, Absent(12, Fact::Public(c, r))),
+        Call::CheckAccess(p, _, _) => row(&[Absent(Missing, Fact::Permission(c, p))]),
+        Call::PublishRole(r) => own_role(c, r, Present(NothingToChange, Fact::Public(c, r))),
+        Call::UnpublishRole(r) => own_role(c, r, Absent(NothingToChange, Fact::Public(c, r))),
     }
 }
 
 // Whose call it is.
-#[derive(Clone, Copy)]
+#[derive(Clone, Copy, Debug, PartialEq, Eq)]
 pub enum Whose {
     Operator,
     Issuer,
@@ -197,38 +216,17 @@ pub enum Whose {
 
 // Kinds 1 and 2 are the operator's.
 pub fn its_caller(call: Call) -> Whose
-    ensures { IsWhose (call_of call) result }
+    ensures { (users : ℕ → ℕ) (c : ℕ) → whose_of result ≡ (rule users c (call_of call)).whose }
 {
     match call {
-        Call::AddIssuer(_) => Whose::Operator,
-        Call::RemoveIssuer(_) => Whose::Operator,
-        Call::AssignTrust(_) => Whose::Issuer,
-        Call::RevokeTrust(_) => Whose::Issuer,
-        Call::AddUser(_) => Whose::Issuer,
-        Call::RemoveUser(_) => Whose::Issuer,
-        Call::AddRole(_) => Whose::Issuer,
-        Call::RemoveRole(_) => Whose::Issuer,
-        Call::AddPerm(_) => Whose::Issuer,
-        Call::RemovePerm(_) => Whose::Issuer,
-        Call::AssignUser(_, _) => Whose::Issuer,
-        Call::RevokeUser(_, _) => Whose::Issuer,
-        Call::AssignPerm(_, _, _) => Whose::Issuer,
-        Call::RevokePerm(_, _, _) => Whose::Issuer,
-        Call::AssignRH(_, _, _) => Whose::Issuer,
-        Call::RevokeRH(_, _, _) => Whose::Issuer,
-        Call::CreateSession(_, _) => Whose::Issuer,
-        Call::DeleteSession(_) => Whose::Issuer,
-        Call::AddActiveRole(_, _) => Whose::Issuer,
-        Call::DropActiveRole(_, _) => Whose::Issuer,
-        Call::CheckAccess(_, _, _) => Whose::Issuer,
-        Call::PublishRole(_) => Whose::Issuer,
-        Call::UnpublishRole(_) => Whose::Issuer,
+        Call::AddIssuer(_) | Call::RemoveIssuer(_) => Whose::Operator,
+        _ => Whose::Issuer,
     }
 }
 
 // The operator is caller 16, an issuer one below.
 pub fn may_call(whose: Whose, c: u8) -> bool
-    ensures { MayCall whose c result }
+    ensures { result ≡ may_call (whose_of whose) c }
 {
     match whose {
         Whose::Operator => c == 16,
@@ -237,11 +235,11 @@ pub fn may_call(whose: Whose, c: u8) -> bool
 }
 
 // What a call does where it is accepted.
-pub fn effect_on(state: &[u16], c: u8, call: Call) -> Effect
-    requires { LawfulWords state.now }
-    ensures { IsEffect (view state.now) c (call_of call) result }
+pub fn effect_on(state: Lawful, request: Request) -> Effect
+    ensures { effect_of result ≡ (row_of (view state.entry.words.now) request).effect }
 {
-    match call {
+    let c = request.caller;
+    match request.call {
         Call::AddIssuer(i) => Effect::Enrols(i),
         Call::RemoveIssuer(i) => Effect::Cuts(Fact::Enrolled(i)),
         Call::AssignTrust(j) => Effect::Puts(Fact::Trusts(c, j)),

@@ -1,22 +1,10 @@
 -- Roles dropped from an issuer's sessions one after another.
-use mathlib.Core.Path.{◌≡◌, refl, ◌∙◌}
-use mathlib.Core.Logic.{◌⊎◌, inl, inr}
-use mathlib.Core.Bool.{cond}
-use mathlib.Core.List.{List}
-use Prim.Native.Nat.{ℕ, ◌+◌, ◌-◌, ◌<◌, ◌≤◌}
+use Rattle.std.proofs.Common.{◌≡◌, ◌∙◌, ◌⊎◌, inl, inr, cond, List, ℕ, ◌+◌, ◌-◌, ◌<◌, ◌≤◌, arith, ltb, length, get_or, set, length-set, get_or-set_same, get_or-set_other, lt-ltb, le-ltb, ltb-true}
 use native.Mathlib.Decide.{ℕ_discrete}
-use native.Mathlib.Omega.{arith}
 use lib.Bits.{bit_and}
-use lib.Dec.{ltb}
-use lib.ListN.{length, get_or, set, length-set}
-use lib.Seq.{get_or-set_same, get_or-set_other}
-use borrow.Author.Tests.{lt-ltb, le-ltb, ltb-true}
 use Rattle.bits.proofs.Booleans.{same_test, below_or_not}
 use Rattle.mtas.specs.Layout.{address, active_roles, state_length, read}
 use Rattle.sessions.specs.Settled.{Dropped}
-
-pub dropped-none : {i : ℕ} {words ws : List ℕ} → Dropped i words 0 ws ws
-dropped-none {i} {words} {ws} = record { len = refl; roles = λ s l. rw (le-ltb s 0 (omega arith)); apart = λ k h. refl }
 
 pub dropped-more : {i : ℕ} {words ws vs : List ℕ} (t : ℕ) → i < 16 → t < 16 → length ws ≡ state_length → Dropped i words t ws vs
     → Dropped i words (t + 1) ws (set vs (address (active_roles i t)) (bit_and (read vs (active_roles i t)) (65535 - get_or words t 0)))

@@ -1,68 +1,49 @@
--- Sessions are in order, issuer by issuer.
-use mathlib.Core.Path.{◌≡◌, refl, ap, sym, ◌∙◌}
-use mathlib.Core.Logic.{◌⊎◌, inl, inr, ◌↔◌}
-use mathlib.Core.Bool.{true, false}
-use mathlib.Core.List.{List}
-use Prim.Native.Nat.{ℕ, ◌+◌, ◌-◌, ◌<◌, ◌≤◌}
-use native.Mathlib.Omega.{arith}
-use lib.Bits.{bit_and, bit_or}
-use lib.ListN.{get_or}
+-- An issuer's sessions are in order where there is no stranger and nothing is beyond reach, and all sessions where each issuer's are.
+use Rattle.std.proofs.Common.{◌≡◌, refl, ap, sym, ◌∙◌, subst, Bool, true, false, List, ℕ, ◌<◌, ◌↔◌, length, get_or, zero-add, arith}
+use Rattle.std.specs.Bool.{MatchBool}
+use Rattle.std.specs.List.{AllWithin, HoldsAt, range_with_len}
+use Rattle.std.proofs.lemmas.List.FromFn.{get_or-range_with_len}
 use Rattle.bits.specs.Bit.{bit}
-use Rattle.bits.specs.Gather.{gather}
-use Rattle.bits.specs.RoleSet.{in_set}
-use Rattle.bits.proofs.Booleans.{clash, untrue, and-not, below_or_not}
-use Rattle.bits.proofs.Gather.{gather-zero, or-zero, stray_zero}
-use Rattle.mtas.specs.Layout.{active_roles, read}
-use Rattle.sessions.specs.Lesser.{stranger, reached_in, Beyond, InOrder}
+use Rattle.bits.proofs.Bit.{bit_0, word_ext}
+use Rattle.bits.proofs.Booleans.{clash, and-not}
+use Rattle.sessions.specs.Lesser.{stranger, reached_in, Beyond, IssuerInOrder, InOrder}
 
--- the sessions of i are in order
-abbrev Ordered : List ℕ → ℕ → Type 0
-Ordered ws i =
-    ((s : ℕ) → s < 16 → stranger ws i s ≡ 0)
-    × ((s n : ℕ) → s < 16 → n < 16 → bit (read ws (active_roles i s)) n ≡ true → reached_in ws i s n ≡ true)
+-- `all` answered whether P holds of each item
+abbrev pub Answered : (ℕ → Type 0) → List ℕ → Bool → Type 0
+Answered P xs r = MatchBool r (AllWithin P xs 0 (length xs)) ((k : ℕ) × (k < length xs) × HoldsAt (λ x. P x → ⊥) xs k)
 
--- those of the first t issuers
-abbrev pub OrderedTo : List ℕ → ℕ → Type 0
-OrderedTo ws t = (i : ℕ) → i < t → Ordered ws i
+pub every : (P : ℕ → Type 0) (xs : List ℕ) (r : Bool) → Answered P xs r → (r ≡ true) ↔ ((k : ℕ) → k < length xs → P (get_or xs k 0))
+every P xs true m = (λ e k l. m k 0 (omega arith) l, λ h. refl)
+every P xs false (k, l, n) = (λ e. absurd (clash e refl), λ h. absurd (n 0 (h k l)))
 
--- the gathered bits of what is beyond reach
-module _ (ws : List ℕ) {i : ℕ} (words none : List ℕ) (x : Beyond ws i words) (wide : (s : ℕ) → get_or words s 0 < 65536) (narrow : (s : ℕ) → get_or none s 0 < 65536) (empty : (j q : ℕ) → in_set none j q ≡ false) where
-  beyond_none : (gather 16 (λ s. bit_and (get_or words (0 + s) 0) (65535 - get_or none s 0)) ≡ 0)
-      ↔ ((s n : ℕ) → s < 16 → n < 16 → bit (read ws (active_roles i s)) n ≡ true → reached_in ws i s n ≡ true)
-  beyond_none = (
-    λ z s n ls ln. (and-not _ (reached_in ws i s n)).0 (sym (x.each s n ls ln) ∙ off s n ls ln z),
-    λ h. (gather-zero 16 _).1 (λ s ls. (stray_zero _ (get_or none s 0) (narrow s) (wide (0 + s))).1 (λ n ln b. absurd (clash (ap (λ w. bit w n) (sym (first s)) ∙ b) (x.each s n ls ln ∙ (and-not _ (reached_in ws i s n)).1 (h s n ls ln))))),
-  )
-    where
-      first : (s : ℕ) → get_or words (0 + s) 0 ≡ get_or words s 0
-      first s = ap (λ k. get_or words k 0) (omega arith)
-
-      off : (s n : ℕ) → s < 16 → n < 16 → gather 16 (λ s. bit_and (get_or words (0 + s) 0) (65535 - get_or none s 0)) ≡ 0 → bit (get_or words s 0) n ≡ false
-      off s n ls ln z =
-          untrue _ (λ b. clash ((stray_zero _ (get_or none s 0) (narrow s) (wide (0 + s))).0 ((gather-zero 16 _).0 z s ls) n ln (ap (λ w. bit w n) (first s) ∙ b)) (empty s n))
-
-  found_none : {u w : ℕ} → u ≡ gather 16 (stranger ws i) → w ≡ gather 16 (λ s. bit_and (get_or words (0 + s) 0) (65535 - get_or none s 0)) → (bit_or u w ≡ 0) ↔ Ordered ws i
-  found_none {u} {w} d e = (
-    λ z. let (p, q) = (or-zero u w).0 z in ((gather-zero 16 (stranger ws i)).0 (sym d ∙ p), beyond_none.0 (sym e ∙ q)),
-    λ (h, r). (or-zero u w).1 (d ∙ (gather-zero 16 (stranger ws i)).1 h, e ∙ beyond_none.1 r),
-  )
-
-  pub ordered_more : {found u w : ℕ} → u ≡ gather 16 (stranger ws i) → w ≡ gather 16 (λ s. bit_and (get_or words (0 + s) 0) (65535 - get_or none s 0))
-      → (found ≡ 0) ↔ OrderedTo ws i → (bit_or found (bit_or u w) ≡ 0) ↔ OrderedTo ws (i + 1)
-  ordered_more {found} {u} {w} d e y = (
-    λ z j l. let (p, q) = (or-zero found (bit_or u w)).0 z in go j l (y.0 p) ((found_none d e).0 q) (below_or_not j i),
-    λ h. (or-zero found (bit_or u w)).1 (y.1 (λ j l. h j (omega arith)), (found_none d e).1 (h i (omega arith))),
-  )
-    where
-      go : (j : ℕ) → j < i + 1 → OrderedTo ws i → Ordered ws i → (j < i) ⊎ (i ≤ j) → Ordered ws j
-      go j l a b (inl k) = a j k
-      go j l a b (inr k) = let q : j ≡ i = omega arith in rw q b
-
-pub ordered-none : (ws : List ℕ) → (◌≡◌ {A = ℕ} 0 0) ↔ OrderedTo ws 0
-ordered-none ws = (λ _ i l. absurd (omega arith), λ _. refl)
-
-pub ordered-all : (ws : List ℕ) {t : ℕ} → t ≡ 16 → OrderedTo ws t ↔ InOrder ws
-ordered-all ws e = (
-  λ h. record { users = λ i s li. (h i (omega arith)).0 s; roles = λ i s n li. (h i (omega arith)).1 s n },
-  λ a i l. (λ s. a.users i s (omega arith), λ s n. a.roles i s n (omega arith)),
+-- the same of the numbers below 16
+pub every_below : (P : ℕ → Type 0) (r : Bool) → Answered P (range_with_len 0 16) r → (r ≡ true) ↔ ((k : ℕ) → k < 16 → P k)
+every_below P r m = (
+  λ e k l. subst P (at k l) (all.0 e k l),
+  λ h. all.1 (λ k l. subst P (sym (at k l)) (h k l)),
 )
+  where
+    all : (r ≡ true) ↔ ((k : ℕ) → k < 16 → P (get_or (range_with_len 0 16) k 0))
+    all = every P (range_with_len 0 16) r m
+
+    at : (k : ℕ) → k < 16 → get_or (range_with_len 0 16) k 0 ≡ k
+    at k l = get_or-range_with_len 0 16 k 0 l ∙ zero-add k
+
+pub issuer_ordered : (ws : List ℕ) {i : ℕ} (words : List ℕ) {r : Bool} → length words ≡ 16 → ((s : ℕ) → get_or words s 0 < 65536) → Beyond ws i words
+    → ((s : ℕ) → s < 16 → stranger ws i s ≡ 0) → Answered (λ w. w ≡ 0) words r → (r ≡ true) ↔ IssuerInOrder ws i
+issuer_ordered ws {i} words {r} long wide x users m = (
+  λ e. record { users = users; roles = λ s n ls ln. (and-not _ (reached_in ws i s n)).0 (sym (x.each s n ls ln) ∙ ap (λ w. bit w n) (all.0 e s (omega arith)) ∙ bit_0 n) },
+  λ h. all.1 (λ s l. word_ext 16 _ 0 (wide s) (omega arith) (λ n ln. x.each s n (omega arith) ln ∙ (and-not _ (reached_in ws i s n)).1 (h.roles s n (omega arith) ln) ∙ sym (bit_0 n))),
+)
+  where
+    all : (r ≡ true) ↔ ((s : ℕ) → s < length words → get_or words s 0 ≡ 0)
+    all = every (λ w. w ≡ 0) words r m
+
+pub all_ordered : (ws : List ℕ) {r : Bool} → Answered (IssuerInOrder ws) (range_with_len 0 16) r → (r ≡ true) ↔ InOrder ws
+all_ordered ws {r} m = (
+  λ e. record { users = λ i s li. (all.0 e i li).users s; roles = λ i s n li. (all.0 e i li).roles s n },
+  λ h. all.1 (λ i li. record { users = λ s. h.users i s li; roles = λ s n. h.roles i s n li }),
+)
+  where
+    all : (r ≡ true) ↔ ((i : ℕ) → i < 16 → IssuerInOrder ws i)
+    all = every_below (IssuerInOrder ws) r m

@@ -1,12 +1,7 @@
 -- What is seen of a session, by the tests on its user.
-use mathlib.Core.Path.{◌≡◌}
-use mathlib.Core.Bool.{Bool, true, false}
-use mathlib.Core.List.{List}
-use Prim.Native.Nat.{ℕ, ◌-◌, ◌<◌, ◌≤◌}
-use lib.Bits.{bit_and}
-use borrow.Author.Tests.{lt-ltb, le-ltb, eq-eqb, ne_eqb}
+use Rattle.std.proofs.Common.{◌≡◌, Bool, true, false, List, ℕ, ◌<◌, ◌≤◌, lt-ltb, le-ltb, eq-eqb, ne_eqb}
 use Rattle.bits.specs.Bit.{bit}
-use Rattle.mtas.specs.Layout.{users, held, session_user, active_roles, read}
+use Rattle.mtas.specs.Layout.{users, session_user, active_roles, read}
 use Rattle.sessions.specs.Lesser.{stranger, lesser}
 
 module _ (ws : List ℕ) (i s : ℕ) where
@@ -25,10 +20,6 @@ module _ (ws : List ℕ) (i s : ℕ) where
   pub no_user : 16 ≤ read ws (session_user i s) → (read ws (session_user i s) ≡ 65535 → ⊥) → 1 ≡ stranger ws i s
   unfolding stranger
   no_user l n = rw (le-ltb _ _ l, ne_eqb _ _ n, stranger)
-
-  pub lesser_of_user : read ws (session_user i s) < 16 → bit_and (read ws (active_roles i s)) (65535 - read ws (held i (read ws (session_user i s)))) ≡ lesser ws i s
-  unfolding lesser
-  lesser_of_user l = rw (lt-ltb _ 16 l, lesser)
 
   pub lesser_of_nobody : 16 ≤ read ws (session_user i s) → read ws (active_roles i s) ≡ lesser ws i s
   unfolding lesser

@@ -1,14 +1,6 @@
 -- Holding one of the roles above i#r is being authorized for it; and who holds an active role is.
-use mathlib.Core.Path.{◌≡◌, refl, ap, sym, subst, ◌∙◌}
-use mathlib.Core.Logic.{◌⊎◌, inl, inr}
-use mathlib.Core.Bool.{Bool, true, false, not, ◌&&◌, ◌||◌}
-use mathlib.Core.List.{List}
-use Prim.Native.Nat.{ℕ, ◌<◌, ◌≤◌}
-use native.Mathlib.Omega.{arith}
-use lib.Bits.{bit_and}
-use lib.Dec.{eqb}
-use lib.ListN.{get_or}
-use borrow.Author.Tests.{lt-ltb, le-ltb, eqb-false, eqb-true, ne_eqb, not-true}
+use Rattle.std.proofs.Common.{◌≡◌, refl, ap, sym, subst, ◌∙◌, ◌⊎◌, inl, inr, Bool, true, false, not, ◌&&◌, ◌||◌, List, ℕ, ◌<◌, ◌≤◌, arith, eqb, get_or, lt-ltb, le-ltb, eqb-true, ne_eqb}
+use borrow.Author.Tests.{eqb-false, not-true}
 use Rattle.bits.specs.Bit.{bit, with_bit}
 use Rattle.bits.proofs.Bit.{bit_0, bit-and, bit_not, bit_with}
 use Rattle.bits.proofs.Booleans.{clash, untrue, same_test, below_or_not, and_left, and_right, and-not, and_intro}
@@ -25,17 +17,9 @@ use Rattle.hierarchy.specs.Links.{linked, ReachingOne}
 use Rattle.hierarchy.proofs.Links.{attachment_words, linked-attachments}
 use Rattle.sessions.specs.Lesser.{lesser, Over, holds_one, reached_in}
 
--- by the test on the user's number
-module _ (ws : List ℕ) (i u roles : ℕ) where
-  pub of_user : u < 16 → not (eqb (bit_and (read ws (held i u)) roles) 0) ≡ holds_one ws i u roles
-  of_user l = rw (lt-ltb u 16 l)
-
-  pub of_nobody : 16 ≤ u → false ≡ holds_one ws i u roles
-  of_nobody l = rw (le-ltb u 16 l)
-
 -- the walk in the attachment words sees the roles of i that reach i#r
-pub over_told : (ws : List ℕ) {i r : ℕ} {found : List ℕ} → i < 16 → ReachingOne (linked (attachment_words ws)) i r found → Over ws i r (get_or found i 0)
-over_told ws {i} {r} {found} li x = record { each = λ h l. (subst (λ g. ReachingOne g i r found) (linked-attachments ws) x).each i h li l }
+pub over_told : (ws : List ℕ) {links : List ℕ} {i r : ℕ} {found : List ℕ} → i < 16 → links ≡ attachment_words ws → ReachingOne (linked links) i r found → Over ws i r (get_or found i 0)
+over_told ws {links} {i} {r} {found} li same x = record { each = λ h l. (subst (λ g. ReachingOne g i r found) (ap linked same ∙ linked-attachments ws) x).each i h li l }
 
 module _ (ws : List ℕ) where
   abbrev links : Graph
@@ -58,11 +42,11 @@ module _ (ws : List ℕ) where
       go : Authorized (view ws) links i u r → (i < 16) × (u < 16) × (r < 16)
       go A = let n = view_numbered ws (holds i u A.through) A.is_held in (n.0, n.1.0, target n.1.1.0 A.is_reached)
 
-  pub none_above : (i u r : ℕ) → (16 ≤ i) ⊎ (16 ≤ r) → false ≡ authorized (view ws) links i u r
+  pub none_above : (i u r : ℕ) → ((i < 16) × (16 ≤ r)) ⊎ (16 ≤ i) → false ≡ authorized (view ws) links i u r
   none_above i u r a = sym (untrue _ (λ e. go a (small i u r e)))
     where
-      go : (16 ≤ i) ⊎ (16 ≤ r) → (i < 16) × (u < 16) × (r < 16) → ⊥
-      go (inl x) (li, lu, lr) = omega arith
+      go : ((i < 16) × (16 ≤ r)) ⊎ (16 ≤ i) → (i < 16) × (u < 16) × (r < 16) → ⊥
+      go (inl (_, x)) (li, lu, lr) = omega arith
       go (inr x) (li, lu, lr) = omega arith
 
   module _ (wide : (k : ℕ) → get_or ws k 0 < 65536) {i : ℕ} (li : i < 16) where

@@ -1,14 +1,8 @@
 -- Sessions settled issuer by issuer: what is dropped changes no holding and no attachment, so that each is settled as the first words say.
-use mathlib.Core.Path.{◌≡◌, refl, ap, ap₂, sym, ◌∙◌, fun_ext}
-use mathlib.Core.Logic.{◌⊎◌, inl, inr}
-use mathlib.Core.Bool.{Bool, true, false, not, ◌&&◌, ◌||◌, and-true}
-use mathlib.Core.List.{List}
-use Prim.Native.Nat.{ℕ, ◌+◌, ◌-◌, ◌<◌, ◌≤◌}
+use Rattle.std.proofs.Common.{◌≡◌, refl, ap, ap₂, sym, ◌∙◌, ◌⊎◌, inl, inr, Bool, true, false, not, ◌&&◌, ◌||◌, List, ℕ, ◌+◌, ◌-◌, ◌<◌, ◌≤◌, arith, ltb, length, get_or, lt-ltb, le-ltb, ltb-true}
+use mathlib.Core.Path.{fun_ext}
+use mathlib.Core.Bool.{and-true}
 use native.Mathlib.Decide.{ℕ_discrete}
-use native.Mathlib.Omega.{arith}
-use lib.Dec.{ltb}
-use lib.ListN.{length, get_or}
-use borrow.Author.Tests.{lt-ltb, le-ltb, ltb-true}
 use Rattle.bits.specs.Bit.{bit}
 use Rattle.bits.specs.Gather.{gather}
 use Rattle.bits.proofs.Bit.{bit_0, bit-and, bit_not}
@@ -22,7 +16,7 @@ use Rattle.mtas.specs.Settle.{authorized}
 use Rattle.mtas.specs.Layout.{held, seniors, session_user, active_roles, address, read, says, view}
 use Rattle.mtas.proofs.Words.{view_says, view_numbered}
 use Rattle.sessions.specs.Lesser.{awake, reached_in, Beyond}
-use Rattle.sessions.specs.Settled.{Dropped, Settled}
+use Rattle.sessions.specs.Settled.{Dropped}
 
 -- ---- the same but for active roles
 module _ (ws vs : List ℕ) (apart : (k : ℕ) → ((i s : ℕ) → i < 16 → s < 16 → k ≡ address (active_roles i s) → ⊥) → get_or vs k 0 ≡ get_or ws k 0) where
@@ -50,13 +44,6 @@ pub record SettledTo (ws : List ℕ) (t : ℕ) (vs : List ℕ) : Type 0 where
   pub len : length vs ≡ length ws
   pub roles : (i s n : ℕ) → i < 16 → s < 16 → n < 16 → bit (read vs (active_roles i s)) n ≡ bit (read ws (active_roles i s)) n && (not (ltb i t) || reached_in ws i s n)
   pub apart : (k : ℕ) → ((i s : ℕ) → i < 16 → s < 16 → k ≡ address (active_roles i s) → ⊥) → get_or vs k 0 ≡ get_or ws k 0
-
-pub settled-none : {ws : List ℕ} → SettledTo ws 0 ws
-settled-none {ws} = record {
-  len = refl;
-  roles = λ i s n li ls ln. rw (le-ltb i 0 (omega arith)) (sym (and-true _));
-  apart = λ k h. refl;
-}
 
 -- the issuers before t + 1 are those before t, and t
 earlier : (i t : ℕ) → (i ≡ t → ⊥) → ltb i t ≡ ltb i (t + 1)
@@ -106,10 +93,3 @@ module _ {ws vs : List ℕ} {t : ℕ} (lt : t < 16) (x : SettledTo ws t vs) wher
     where
       none : (s n : ℕ) → s < 16 → bit (read vs (active_roles t s)) n ≡ false
       none s n ls = let (_, q) = (or-zero (65535 - read vs (session_user t s)) (read vs (active_roles t s))).0 ((gather-zero 16 (awake vs t)).0 (sym e ∙ z) s ls) in rw q (bit_0 n)
-
-pub settled-all : {ws vs : List ℕ} {t : ℕ} → t ≡ 16 → SettledTo ws t vs → Settled ws vs
-settled-all {ws} {vs} {t} e x = record {
-  len = x.len;
-  roles = λ i s n li ls ln. x.roles i s n li ls ln ∙ rw (e, lt-ltb i 16 li);
-  apart = x.apart;
-}

@@ -1,17 +1,14 @@
 -- Lesser roles sifted one role after another: what is left is beyond reach.
-use mathlib.Core.Path.{◌≡◌, refl, ap, sym, ◌∙◌}
-use mathlib.Core.Bool.{Bool, true, false, cond, not, ◌&&◌, and-true, and-false}
-use mathlib.Core.List.{List}
-use Prim.Native.Nat.{ℕ, ◌<◌}
+use Rattle.std.proofs.Common.{◌≡◌, refl, ap, sym, ◌∙◌, Bool, true, false, cond, not, ◌&&◌, List, ℕ, ◌<◌, get_or, eq-eqb, ne_eqb}
+use mathlib.Core.Bool.{and-true, and-false}
 use native.Mathlib.Decide.{ℕ_discrete}
-use lib.ListN.{get_or}
-use borrow.Author.Tests.{eq-eqb, ne_eqb}
-use Rattle.bits.specs.Bit.{bit, without_bit, Lowest}
-use Rattle.bits.proofs.Bit.{bit_0, bit_without}
-use Rattle.bits.proofs.Booleans.{clash, untrue}
+use Rattle.bits.specs.Gather.{gather}
 use Rattle.bits.proofs.Gather.{gather_has}
+use Rattle.bits.specs.Bit.{bit, without_bit, Lowest}
+use Rattle.bits.proofs.Bit.{bit_without}
+use Rattle.bits.proofs.Booleans.{clash, untrue}
 use Rattle.mtas.specs.Layout.{session_user, active_roles, read}
-use Rattle.sessions.specs.Lesser.{lesser, IsLesser, Over, holds_one, Spared, reached_in, Beyond}
+use Rattle.sessions.specs.Lesser.{lesser, IsLesser, Over, holds_one, Spared, reached_in}
 use Rattle.sessions.proofs.Reached.{one_held, none_beyond, is_beyond}
 
 -- the roles of the rest are lesser ones, and of the others those are left that are beyond reach
@@ -20,14 +17,14 @@ pub record Sifted (ws : List ℕ) (i rest : ℕ) (words : List ℕ) : Type 0 whe
       → bit (get_or words s 0) n ≡ cond (bit rest n) (bit (lesser ws i s) n) (bit (read ws (active_roles i s)) n && not (reached_in ws i s n))
 
 module _ (ws : List ℕ) (wide : (k : ℕ) → get_or ws k 0 < 65536) {i : ℕ} (li : i < 16) where
-  pub sifted_none : {words : List ℕ} {all : ℕ} → IsLesser ws i words all → Sifted ws i all words
-  sifted_none {words} {all} x = record { each = λ s n ls ln. ap (λ w. bit w n) (x.each s ls) ∙ go s n ls ln (bit all n) refl }
+  pub sifted_none : {words : List ℕ} {all : ℕ} → all ≡ gather 16 (λ s. get_or words s 0) → IsLesser ws i words → Sifted ws i all words
+  sifted_none {words} {all} e x = record { each = λ s n ls ln. ap (λ w. bit w n) (x.each s ls) ∙ go s n ls ln (bit all n) refl }
     where
       go : (s n : ℕ) → s < 16 → n < 16 → (b : Bool) → bit all n ≡ b
           → bit (lesser ws i s) n ≡ cond b (bit (lesser ws i s) n) (bit (read ws (active_roles i s)) n && not (reached_in ws i s n))
       go s n ls ln true e = refl
-      go s n ls ln false e =
-          let none = untrue (bit (lesser ws i s) n) (λ h. clash (gather_has 16 (lesser ws i) s n ls h) (ap (λ w. bit w n) (sym x.gathered) ∙ e)) in
+      go s n ls ln false p =
+          let none = untrue (bit (lesser ws i s) n) (λ h. clash (gather_has 16 (λ k. get_or words k 0) s n ls (ap (λ w. bit w n) (x.each s ls) ∙ h)) (ap (λ w. bit w n) (sym e) ∙ p)) in
           none ∙ sym (none_beyond ws wide li s n ln none)
 
   pub sifted_more : {r rest above : ℕ} {words after : List ℕ} → Lowest rest r → Over ws i r above → Spared ws i r above words after
@@ -57,6 +54,3 @@ module _ (ws : List ℕ) (wide : (k : ℕ) → get_or ws k 0 < 65536) {i : ℕ} 
       go s n ls ln (no d) =
           other s n ls ln d (holds_one ws i (read ws (session_user i s)) above) ∙ y.each s n ls ln
           ∙ rw (bit_without rest r n low.place ln, ne_eqb r n d, and-true (bit rest n))
-
-pub sifted_all : (ws : List ℕ) {i rest : ℕ} {words : List ℕ} → rest ≡ 0 → Sifted ws i rest words → Beyond ws i words
-sifted_all ws {i} {rest} e x = record { each = λ s n ls ln. x.each s n ls ln ∙ rw (e, bit_0 n) }

@@ -2,7 +2,6 @@
 use Rattle.std.specs.Prelude.{◌≡◌, Bool, true, false, cond, not, ◌&&◌, List, ℕ, ◌-◌, ◌<◌, eqb, ltb, get_or}
 use Rattle.std.specs.Int.Bits.{bit_and, bit_or}
 use Rattle.bits.specs.Bit.{bit, without_bit}
-use Rattle.bits.specs.Gather.{gather}
 use Rattle.mtas.specs.Hierarchy.{◌#◌, reaches}
 use Rattle.mtas.specs.Law.{attachments}
 use Rattle.mtas.specs.Settle.{authorized}
@@ -26,10 +25,9 @@ lesser ws i s =
     (bit_and (read ws (active_roles i s)) (65535 - read ws (held i (read ws (session_user i s)))))
     (read ws (active_roles i s))
 
--- a word for each session of i, and the bits of all
-pub record IsLesser (ws : List ℕ) (i : ℕ) (words : List ℕ) (all : ℕ) : Type 0 where
+-- a word for each session of i
+pub record IsLesser (ws : List ℕ) (i : ℕ) (words : List ℕ) : Type 0 where
   pub each : (s : ℕ) → s < 16 → get_or words s 0 ≡ lesser ws i s
-  pub gathered : all ≡ gather 16 (lesser ws i)
 
 -- the roles of i that reach i#r
 pub record Over (ws : List ℕ) (i r above : ℕ) : Type 0 where
@@ -51,7 +49,12 @@ reached_in ws i s n = authorized (view ws) (attachments (view ws)) i (read ws (s
 pub record Beyond (ws : List ℕ) (i : ℕ) (words : List ℕ) : Type 0 where
   pub each : (s n : ℕ) → s < 16 → n < 16 → bit (get_or words s 0) n ≡ bit (read ws (active_roles i s)) n && not (reached_in ws i s n)
 
--- each session's user is nobody or present, and each active role reached by one that this user holds
+-- each user of i's sessions is nobody or present, and each of their active roles reached by one that this user holds
+pub record IssuerInOrder (ws : List ℕ) (i : ℕ) : Type 0 where
+  pub users : (s : ℕ) → s < 16 → stranger ws i s ≡ 0
+  pub roles : (s n : ℕ) → s < 16 → n < 16 → bit (read ws (active_roles i s)) n ≡ true → reached_in ws i s n ≡ true
+
+-- the same of all issuers
 pub record InOrder (ws : List ℕ) : Type 0 where
   pub users : (i s : ℕ) → i < 16 → s < 16 → stranger ws i s ≡ 0
   pub roles : (i s n : ℕ) → i < 16 → s < 16 → n < 16 → bit (read ws (active_roles i s)) n ≡ true → reached_in ws i s n ≡ true

@@ -1,5 +1,6 @@
 -- The converter's answers, from the caller, the sheet's size and the buffer's length.
-use mathlib.Core.Path.{◌≡◌, refl, sym, ap, ◌∙◌}
+use mathlib.Core.Path.{◌≡◌, refl, sym, ◌∙◌}
+use Rattle.std.specs.Prelude.{Result, Ok, Err}
 use mathlib.Core.List.{List, ◌∷◌}
 use Prim.Native.Nat.{ℕ, ◌≤◌, ◌<◌}
 use native.Mathlib.Omega.{arith}
@@ -10,17 +11,17 @@ use Rattle.sheet.specs.Reading.{Rows, calls, wrong_at, rows}
 use Rattle.sheet.specs.Rfc4180.{CR, LF}
 use Rattle.sheet.specs.Exact.{Lines, WrongAt, no_row}
 use Rattle.sheet.specs.Converted.{records, given, converted, over}
-use Rattle.sheet.specs.Found.{size_of, Fitting, records_in, Converts}
-use Rattle.sheet.specs.declared.Size.{Size}
-use Rattle.sheet.specs.declared.Size.TheVariants.{Bytes, Wrong}
+use Rattle.sheet.specs.Found.{answer_of, size_of, Fitting, records_in, Converts}
+use Rattle.sheet.specs.declared.Error.{Error}
+use Rattle.sheet.specs.declared.Error.TheVariants.{Line}
 use Rattle.sheet.proofs.Exact.{exact}
 
 -- what a size says of the rows
-a_wrong_line : (c : ℕ) (s : Rows) (line : ℕ) → Wrong line ≡ size_of c s → s ≡ wrong_at line
-a_wrong_line c (calls ks) line e = let z : ◌≡◌ {A = ℕ} 0 1 = cc in absurd (omega arith)
-a_wrong_line c (wrong_at n) line e = let s : line ≡ n = cc in ap wrong_at (sym s)
+a_wrong_line : (c : ℕ) (s : Rows) (error : Error) → Err error ≡ size_of c s → (line : ℕ) × (error ≡ Line line) × (s ≡ wrong_at line)
+a_wrong_line c (calls ks) error e = let z : ◌≡◌ {A = ℕ} 0 1 = cc in absurd (omega arith)
+a_wrong_line c (wrong_at n) error e = (n, cc, refl)
 
-all-calls : (c : ℕ) (s : Rows) (n : ℕ) → Bytes n ≡ size_of c s → (ks : List Call) × (s ≡ calls ks) × (n ≡ length (records c ks))
+all-calls : (c : ℕ) (s : Rows) (n : ℕ) → Ok n ≡ size_of c s → (ks : List Call) × (s ≡ calls ks) × (n ≡ length (records c ks))
 all-calls c (calls ks) n e = (ks, refl, cc)
 all-calls c (wrong_at line) n e = let z : ◌≡◌ {A = ℕ} 0 1 = cc in absurd (omega arith)
 
@@ -37,20 +38,22 @@ module _ (csv : List ℕ) (caller : ℕ) (out : List ℕ) where
   unfolding converted
   strange_caller h = rw (lt-ltb 15 caller h, converted) (record { same_error = refl; same_line = refl; same_bytes = refl; same_out = refl })
 
-  module _ (own : caller ≤ 15) {s : Size} (size : (c : ℕ) → s ≡ size_of c (rows csv)) where
+  module _ (own : caller ≤ 15) {s : Result ℕ Error} (size : (c : ℕ) → s ≡ size_of c (rows csv)) where
     by_rows : converted csv caller out ≡ given caller out (rows csv)
     unfolding converted
     by_rows = rw (le-ltb 15 caller own, converted)
 
-    pub wrong_row : {line : ℕ} → s ≡ Wrong line → Converts (converted csv caller out) (record { error = 15; line = line; bytes = 0 }) out
-    wrong_row {line} e =
-        let w = a_wrong_line caller (rows csv) line (sym e ∙ size caller) in
-        rw (by_rows, w) (record { same_error = refl; same_line = refl; same_bytes = refl; same_out = refl })
+    module _ {error : Error} (e : s ≡ Err error) where
+      wrong : (line : ℕ) × (error ≡ Line line) × (rows csv ≡ wrong_at line)
+      wrong = a_wrong_line caller (rows csv) error (sym e ∙ size caller)
 
-    pub wrong_line : {line : ℕ} → s ≡ Wrong line → line ≤ length csv
-    wrong_line {line} e = line-inside ((exact.a_wrong_line csv line).0 (a_wrong_line caller (rows csv) line (sym e ∙ size caller)))
+      pub wrong_row : Converts (converted csv caller out) (answer_of (Err error)) out
+      wrong_row = rw (by_rows, wrong.1, wrong.2) (record { same_error = refl; same_line = refl; same_bytes = refl; same_out = refl })
 
-    module _ {n : ℕ} (e : s ≡ Bytes n) where
+      pub wrong_line : ((answer_of (Err error)).line ≤ length csv) × ((answer_of (Err error)).bytes ≤ length out)
+      wrong_line = rw wrong.1 (line-inside ((exact.a_wrong_line csv wrong.0).0 wrong.2), omega arith)
+
+    module _ {n : ℕ} (e : s ≡ Ok n) where
       sheet : (ks : List Call) × (rows csv ≡ calls ks) × (n ≡ length (records caller ks))
       sheet = all-calls caller (rows csv) n (sym e ∙ size caller)
 

@@ -1,75 +1,33 @@
 -- Texts of digits alone, and which are numbers in decimal.
 use mathlib.Core.Path.{◌≡◌, refl, sym, ap, ap₂, ◌∙◌}
+use Rattle.std.specs.Prelude.{Option, Some, None}
 use mathlib.Core.Logic.{⊎_elim}
-use mathlib.Core.Bool.{Bool, true, false, false≢true, ◌&&◌, not, and-false}
+use mathlib.Core.Bool.{Bool, true, false, false≢true, ◌&&◌, not}
 use mathlib.Core.List.{List, [], ◌∷◌, ◌++◌, append_assoc, append-nil}
 use Prim.Native.Nat.{ℕ, suc, ◌+◌, ◌-◌, ◌*◌, ◌/◌, ◌%◌, ◌≤◌, ◌<◌}
-use native.Mathlib.Numerals.{add-one}
 use native.Mathlib.Omega.{arith}
-use borrow.Author.Tests.{eq-eqb, ne_eqb, eqb-false, leb-true, le-leb, lt-leb, not-true, not-false}
+use borrow.Author.Tests.{ne_eqb, eqb-false, leb-true, le-leb, not-true}
 use lib.Dec.{eqb, leb}
-use lib.ListN.{length, get_or, drop, drop_of_length-le}
-use lib.Seq.{drop-cons}
+use lib.ListN.{length, get_or}
 use Rattle.bits.proofs.Booleans.{below_or_not, and_both}
 use Rattle.lines.specs.Decimal.{decimal, value, value_from, Spells}
 use Rattle.lines.proofs.Decimal.{decimal_step, spells_decimal}
 use Rattle.sheet.specs.Reading.{number}
 use Rattle.sheet.specs.Caller.{all_digits, is_decimal, a_caller, no_caller, caller_in, named_of, CallerLaws}
-use Rattle.sheet.specs.declared.Caller.{Caller}
-use Rattle.sheet.specs.declared.Caller.TheVariants.{Number, Other}
 use Rattle.sheet.proofs.Numbers.{single_digit, number-sound, number-complete, small-or_16}
 
--- ---- digits from a place on
-module _ (t : List ℕ) (i : ℕ) (s : all_digits t ≡ all_digits (drop i t)) where
-  pub to_the_last : length t ≤ i → true ≡ all_digits t
-  unfolding all_digits
-  to_the_last h = sym (s ∙ ap all_digits (drop_of_length-le t h))
-
-  module _ (h : i < length t) where
-    at_place : all_digits t ≡ (leb 48 (get_or t i 0) && leb (get_or t i 0) 57) && all_digits (drop (suc i) t)
-    unfolding all_digits
-    at_place = s ∙ ap all_digits (drop-cons t i 0 h)
-
-    pub below : get_or t i 0 < 48 → false ≡ all_digits t
-    below b = sym (at_place ∙ rw (lt-leb 48 (get_or t i 0) b))
-
-    pub beyond : 57 < get_or t i 0 → false ≡ all_digits t
-    beyond b = sym (at_place ∙ rw (lt-leb (get_or t i 0) 57 b, and-false (leb 48 (get_or t i 0))))
-
-    pub one_digit : 48 ≤ get_or t i 0 → get_or t i 0 ≤ 57 → all_digits t ≡ all_digits (drop (i + 1) t)
-    one_digit a b = rw add-one (at_place ∙ rw (le-leb 48 (get_or t i 0) a, le-leb (get_or t i 0) 57 b))
-
 -- ---- a number in decimal
-pub empty : (t : List ℕ) → length t ≡ 0 → false ≡ is_decimal t
-unfolding is_decimal
-empty [] h = refl
-empty (x ∷ t) h = absurd (omega arith)
-
-pub single : (t : List ℕ) {b : Bool} → length t ≡ 1 → b ≡ all_digits t → b ≡ is_decimal t
+single : (t : List ℕ) {b : Bool} → length t ≡ 1 → b ≡ all_digits t → b ≡ is_decimal t
 unfolding is_decimal
 single [] h e = absurd (omega arith)
 single (x ∷ []) h e = e
 single (x ∷ y ∷ t) h e = absurd (omega arith)
 
-pub leading_zero : (t : List ℕ) → (length t ≡ 0 → ⊥) → (length t ≡ 1 → ⊥) → get_or t 0 0 ≡ 48 → false ≡ is_decimal t
-unfolding is_decimal
-leading_zero [] n o z = absurd (n refl)
-leading_zero (x ∷ []) n o z = absurd (o refl)
-leading_zero (x ∷ y ∷ t) n o z = rw (eq-eqb x 48 z)
-
-pub several : (t : List ℕ) {b : Bool} → (length t ≡ 0 → ⊥) → (length t ≡ 1 → ⊥) → (get_or t 0 0 ≡ 48 → ⊥) → b ≡ all_digits t → b ≡ is_decimal t
+several : (t : List ℕ) {b : Bool} → (length t ≡ 0 → ⊥) → (length t ≡ 1 → ⊥) → (get_or t 0 0 ≡ 48 → ⊥) → b ≡ all_digits t → b ≡ is_decimal t
 unfolding is_decimal
 several [] n o z e = absurd (n refl)
 several (x ∷ []) n o z e = absurd (o refl)
 several (x ∷ y ∷ t) n o z e = rw (ne_eqb x 48 z) e
-
--- ---- a caller
-module _ (t : List ℕ) {b : Bool} (e : b ≡ is_decimal t) where
-  pub unnamed : not b ≡ true → no_caller ≡ caller_in t
-  unnamed n = rw (sym (sym (not-true b n) ∙ e), caller_in)
-
-  pub named : not b ≡ false → {n : ℕ} → n ≡ number t → a_caller n ≡ caller_in t
-  named n q = rw (sym (sym (not-false b n) ∙ e), caller_in) (ap a_caller q)
 
 digits_of : (t : List ℕ) → ((i : ℕ) → i < length t → (48 ≤ get_or t i 0) × (get_or t i 0 ≤ 57)) → all_digits t ≡ true
 unfolding all_digits
@@ -131,13 +89,13 @@ caller_laws = record {
     other t h true e = let (n, q) = number_of t e in absurd (h n q)
     other t h false e = rw (e, caller_in)
 
-    number_told : (r : Caller) (n : ℕ) → named_of r ≡ a_caller n → r ≡ Number n
-    number_told (Number m) n e = cc
-    number_told Other n e = let z : ◌≡◌ {A = ℕ} 0 1 = cc in absurd (omega arith)
+    number_told : (r : Option ℕ) (n : ℕ) → named_of r ≡ a_caller n → r ≡ Some n
+    number_told (Some m) n e = cc
+    number_told None n e = let z : ◌≡◌ {A = ℕ} 0 1 = cc in absurd (omega arith)
 
-    other_told : (r : Caller) → named_of r ≡ no_caller → r ≡ Other
-    other_told (Number m) e = let z : ◌≡◌ {A = ℕ} 0 1 = cc in absurd (omega arith)
-    other_told Other e = refl
+    other_told : (r : Option ℕ) → named_of r ≡ no_caller → r ≡ None
+    other_told (Some m) e = let z : ◌≡◌ {A = ℕ} 0 1 = cc in absurd (omega arith)
+    other_told None e = refl
 
     great : (n : ℕ) → 15 < n → number (decimal n) ≡ 16
     great n h =

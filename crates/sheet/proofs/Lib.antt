@@ -9,7 +9,6 @@ pub mod Digits
 mod Bytes
 mod Texts
 mod Words
-mod Ends
 mod Plain
 mod Fields
 mod Numbers

@@ -1,5 +1,6 @@
 -- A sheet read up to a byte place: how many bytes its records have, or the line where it is wrong.
 use mathlib.Core.Path.{◌≡◌, refl, sym, ap, ◌∙◌}
+use Rattle.std.specs.Prelude.{Option, Some, None, Result, Ok, Err}
 use mathlib.Core.List.{List, [], ◌∷◌}
 use Prim.Native.Nat.{ℕ, suc, ◌+◌, ◌-◌, ◌^◌, ◌≤◌, ◌<◌}
 use native.Mathlib.Numerals.{add-one}
@@ -14,11 +15,9 @@ use Rattle.mtas.specs.Record.{header, record_of, encode_call}
 use Rattle.sheet.specs.Reading.{Read, none, read, row, Rows, calls, wrong_at, one_call, rows_from, rows}
 use Rattle.sheet.specs.Found.{recorded, slots_of, Sound, RowIs, size_of}
 use Rattle.sheet.specs.Converted.{records}
+use Rattle.sheet.specs.declared.Error.{Error}
+use Rattle.sheet.specs.declared.Error.TheVariants.{Line}
 use Rattle.sheet.specs.declared.reading.Call.{Call as Called}
-use Rattle.sheet.specs.declared.reading.Row.{Row}
-use Rattle.sheet.specs.declared.reading.Row.TheVariants.{Of, Other}
-use Rattle.sheet.specs.declared.Size.{Size}
-use Rattle.sheet.specs.declared.Size.TheVariants.{Bytes, Wrong}
 use Rattle.sheet.proofs.Sheets.{rows_read, rows_wrong, rows_none}
 
 -- ---- one row
@@ -41,17 +40,17 @@ record_length : (c : ℕ) (k : Called) → k.count ≤ 3 → length (record_of k
 record_length c k h = omega (arith, length-take k.count (k.slots.x ∷ k.slots.y ∷ k.slots.z ∷ []))
 
 -- what the code reads at a place of the sheet
-module _ (csv : List ℕ) (at : ℕ) {r : Row} (i : RowIs (take (length csv - at) (drop at csv)) r) where
+module _ (csv : List ℕ) (at : ℕ) {r : Option (Called × ℕ)} (i : RowIs (take (length csv - at) (drop at csv)) r) where
   here : RowIs (drop at csv) r
   here = rw part_to_end at i
 
-  pub no_call : r ≡ Other → row (drop at csv) ≡ none
+  pub no_call : r ≡ None → row (drop at csv) ≡ none
   no_call e = unrecorded 0 (row (drop at csv)) ((rw e at here).same 0)
 
-  pub a_call : (c : ℕ) {k : Called} {next : ℕ} → r ≡ Of k next → Got c (row (drop at csv)) (record_of k.kind c (slots_of k)) (drop (at + next) csv)
+  pub a_call : (c : ℕ) {k : Called} {next : ℕ} → r ≡ Some (k, next) → Got c (row (drop at csv)) (record_of k.kind c (slots_of k)) (drop (at + next) csv)
   a_call c {k} {next} e = rw (drop-drop next at csv) at (got c (row (drop at csv)) (record_of k.kind c (slots_of k)) (drop next (drop at csv)) ((rw e at here).same c))
 
-  module _ {k : Called} {next : ℕ} (e : r ≡ Of k next) where
+  module _ {k : Called} {next : ℕ} (e : r ≡ Some (k, next)) where
     pub place : Sound (drop at csv) k next
     place = here.sound e
 
@@ -65,18 +64,18 @@ module _ (csv : List ℕ) (at : ℕ) {r : Row} (i : RowIs (take (length csv - at
     less h = omega (arith, place.shorter)
 
 -- ---- its size
-abbrev plus : ℕ → Size → Size
-plus b (Bytes n) = Bytes (b + n)
-plus b (Wrong line) = Wrong line
+abbrev plus : ℕ → Result ℕ Error → Result ℕ Error
+plus b (Ok n) = Ok (b + n)
+plus b (Err e) = Err e
 
 size-more : (c : ℕ) (k : Call) (s : Rows) → size_of c (one_call k s) ≡ plus (length (encode_call c k)) (size_of c s)
 unfolding records
-size-more c k (calls ks) = ap Bytes (length-append (encode_call c k) (records c ks))
+size-more c k (calls ks) = ap Ok (length-append (encode_call c k) (records c ks))
 size-more c k (wrong_at line) = refl
 
-plus-plus : (a b : ℕ) (s : Size) → plus a (plus b s) ≡ plus (a + b) s
-plus-plus a b (Bytes n) = ap Bytes (omega arith)
-plus-plus a b (Wrong line) = refl
+plus-plus : (a b : ℕ) (s : Result ℕ Error) → plus a (plus b s) ≡ plus (a + b) s
+plus-plus a b (Ok n) = ap Ok (omega arith)
+plus-plus a b (Err e) = refl
 
 -- the bytes of the records before a place, and the line there
 pub record Sizing (csv : List ℕ) (bytes at line : ℕ) : Type 0 where
@@ -91,12 +90,12 @@ sizing_start csv =
     let e : length csv + 2 - 1 ≡ suc (length csv) = omega arith in
     record { inside = omega arith; few = omega arith; first = omega arith; early = omega arith; rest = λ c. rw e (sym (nothing (size_of c (rows csv)))) }
   where
-    nothing : (s : Size) → plus 0 s ≡ s
-    nothing (Bytes n) = ap Bytes (omega arith)
-    nothing (Wrong line) = refl
+    nothing : (s : Result ℕ Error) → plus 0 s ≡ s
+    nothing (Ok n) = ap Ok (omega arith)
+    nothing (Err e) = refl
 
 -- a row more
-module _ {csv : List ℕ} {bytes at line : ℕ} (g : Sizing csv bytes at line) (more : at < length csv) {r : Row} (i : RowIs (take (length csv - at) (drop at csv)) r) where
+module _ {csv : List ℕ} {bytes at line : ℕ} (g : Sizing csv bytes at line) (more : at < length csv) {r : Option (Called × ℕ)} (i : RowIs (take (length csv - at) (drop at csv)) r) where
   fuel : length csv + 2 - line - 1 ≡ length csv + 2 - suc line
   fuel = omega (arith, g.early)
 
@@ -106,11 +105,11 @@ module _ {csv : List ℕ} {bytes at line : ℕ} (g : Sizing csv bytes at line) (
   left : 0 < length (drop at csv)
   left = omega (arith, length-drop at csv)
 
-  pub sizing_wrong : r ≡ Other → (c : ℕ) → Wrong line ≡ size_of c (rows csv)
+  pub sizing_wrong : r ≡ None → (c : ℕ) → Err (Line line) ≡ size_of c (rows csv)
   sizing_wrong e c =
       sym (g.rest c ∙ ap (λ s. plus bytes (size_of c s)) (rows_wrong (length csv + 2 - line) line (drop at csv) left enough (no_call csv at i e)))
 
-  module _ {k : Called} {next : ℕ} (e : r ≡ Of k next) where
+  module _ {k : Called} {next : ℕ} (e : r ≡ Some (k, next)) where
     its : Sound (drop at csv) k next
     its = place csv at i e
 
@@ -132,7 +131,7 @@ module _ {csv : List ℕ} {bytes at line : ℕ} (g : Sizing csv bytes at line) (
       rest = λ c. g.rest c ∙ ap (plus bytes) (on c) ∙ plus-plus bytes (header + k.count) (rest_size c);
     })
       where
-        rest_size : ℕ → Size
+        rest_size : ℕ → Result ℕ Error
         rest_size c = size_of c (rows_from (length csv + 2 - suc line) (suc line) (drop (at + next) csv))
 
         on : (c : ℕ) → size_of c (rows_from (length csv + 2 - line) line (drop at csv)) ≡ plus (header + k.count) (rest_size c)
@@ -142,9 +141,9 @@ module _ {csv : List ℕ} {bytes at line : ℕ} (g : Sizing csv bytes at line) (
             let s = rw fuel at (rows_read (length csv + 2 - line) line (drop at csv) left enough t.was) in
             ap (size_of c) s ∙ size-more c t.call (rows_from (length csv + 2 - suc line) (suc line) (drop (at + next) csv)) ∙ ap (λ m. plus m (rest_size c)) n
 
-pub sizing_end : {csv : List ℕ} {bytes at line : ℕ} → Sizing csv bytes at line → length csv ≤ at → (c : ℕ) → Bytes bytes ≡ size_of c (rows csv)
+pub sizing_end : {csv : List ℕ} {bytes at line : ℕ} → Sizing csv bytes at line → length csv ≤ at → (c : ℕ) → Ok bytes ≡ size_of c (rows csv)
 unfolding records
 sizing_end {csv} {bytes} {at} {line} g h c =
     let t : rows_from (length csv + 2 - line) line (drop at csv) ≡ calls [] = rw (drop_of_length-le csv h) (rows_none (length csv + 2 - line) line (omega (arith, g.early, g.inside))) in
     let z : bytes + 0 ≡ bytes = omega arith in
-    sym (g.rest c ∙ ap (λ s. plus bytes (size_of c s)) t ∙ ap Bytes z)
+    sym (g.rest c ∙ ap (λ s. plus bytes (size_of c s)) t ∙ ap Ok z)

@@ -1,35 +1,42 @@
--- The word that a text is, from the words that it isn't.
-use mathlib.Core.Path.{◌≡◌, refl, ap, sym, ◌∙◌}
-use mathlib.Core.Bool.{true, false}
-use mathlib.Core.List.{List, [], ◌∷◌, ◌++◌}
-use Prim.Native.Nat.{ℕ, ◌≤◌}
+-- The word that a text is, or none, from its length and its bytes.
+use mathlib.Core.Path.{◌≡◌, refl, ap, ◌∙◌}
+use mathlib.Core.Bool.{Bool, true, false}
+use mathlib.Core.List.{List, [], ◌∷◌}
+use Prim.Native.Nat.{ℕ, ◌≤◌, ◌+◌, suc}
 use native.Mathlib.Omega.{arith}
+use lib.ListN.{length, get_or}
+use Rattle.std.proofs.lemmas.Slice.Eq.{bytes_eq-Decides, text_from_reads, HasBytesAt}
 use Rattle.mtas.specs.Record.{kind_at}
-use Rattle.sheet.specs.Reading.{words, same, kind_in, kind_named}
-use Rattle.sheet.specs.Found.{count_of, Names}
+use Rattle.sheet.specs.Form.{user, role, perm, trust, give, grant, attach}
+use Rattle.sheet.specs.Reading.{same, kind_in, kind_named}
+use Rattle.sheet.specs.Found.{count_of, Is}
+use Rattle.sheet.proofs.Texts.{equal-same}
 
--- the text is none of these words
-abbrev pub Missed : List ℕ → List (List ℕ × ℕ) → Type 0
-Missed t [] = Unit
-Missed t ((w, k) ∷ l) = (same t w ≡ false) × Missed t l
+-- a text of another length, or with another byte
+abbrev pub Differs : List ℕ → ℕ → List ℕ → Type 0
+Differs t i [] = ⊥
+Differs t i (x ∷ w) = get_or t i 0 ≡ x → Differs t (suc i) w
 
-hit : (t : List ℕ) (front : List (List ℕ × ℕ)) (w : List ℕ) (k : ℕ) (l : List (List ℕ × ℕ)) → Missed t front → same t w ≡ true → kind_in (front ++ ((w, k) ∷ l)) t ≡ k
-hit t [] w k l m h = rw (h, kind_in)
-hit t ((v, j) ∷ front) w k l m h = rw (m.0, kind_in) (hit t front w k l m.1 h)
+abbrev pub Other : List ℕ → List ℕ → Type 0
+Other t w = length t ≡ length w → Differs t 0 w
 
-missed : (t : List ℕ) (l : List (List ℕ × ℕ)) → Missed t l → kind_in l t ≡ 0
-missed t [] m = refl
-missed t ((v, j) ∷ l) m = rw (m.0, kind_in) (missed t l m.1)
+differs : (t w : List ℕ) (i : ℕ) → ((k j : ℕ) → j ≡ i + k → get_or t j 0 ≡ get_or w k 0) → Differs t i w → ⊥
+differs t [] i h d = d
+differs t (x ∷ w) i h d = differs t w (suc i) (λ k j e. h (suc k) j (omega arith)) (d (h 0 i (omega arith)))
 
--- what the kind is, the count follows
-names : (t : List ℕ) (k count : ℕ) → kind_named t ≡ k → count ≡ count_of (kind_at k) → count ≤ 3 → Names t (record { kind = k; count = count })
-names t k count e s f = record { same_kind = sym e; same_count = s ∙ ap (λ j. count_of (kind_at j)) (sym e); few = f }
+other_word : (t w : List ℕ) → Other t w → same t w ≡ false
+other_word t w o = go (same t w) refl
+  where
+    go : (b : Bool) → same t w ≡ b → same t w ≡ false
+    go false e = e
+    go true e =
+        let q : t ≡ w = (bytes_eq-Decides t w).0 (equal-same t w ∙ e) in
+        absurd (differs t w 0 (λ k j e. let z : j ≡ k = omega arith in rw z (ap (λ l. get_or l k 0) q)) (o (ap length q)))
 
-pub no_word : (t : List ℕ) → Missed t words → Names t (record { kind = 0; count = 0 })
+pub no_word : (t : List ℕ) → Other t user → Other t role → Other t perm → Other t trust → Other t give → Other t grant → Other t attach → kind_named t ≡ 0
 unfolding kind_named
-no_word t m = names t 0 0 (missed t words m) refl (omega arith)
+no_word t u r p j g n a = rw (other_word t user u, other_word t role r, other_word t perm p, other_word t trust j, other_word t give g, other_word t grant n, other_word t attach a, kind_in) refl
 
-pub the_word : (t : List ℕ) (front : List (List ℕ × ℕ)) (w : List ℕ) (k : ℕ) (l : List (List ℕ × ℕ)) → words ≡ front ++ ((w, k) ∷ l) → Missed t front → same t w ≡ true
-    → (count : ℕ) → count ≡ count_of (kind_at k) → count ≤ 3 → Names t (record { kind = k; count = count })
-unfolding kind_named
-the_word t front w k l e m h count s f = names t k count (ap (λ r. kind_in r t) e ∙ hit t front w k l m h) s f
+pub the_word : (w : List ℕ) (k count : ℕ) → k ≡ kind_named w → count ≡ count_of (kind_at (kind_named w)) → 1 ≤ count → count ≤ 3
+    → (t : List ℕ) → length t ≡ length w → HasBytesAt t 0 w → Is t (record { kind = k; count = count })
+the_word w k count s c o f t n h = rw (text_from_reads t w n h) (record { same_kind = s; same_count = c; some = o; few = f })

@@ -1,5 +1,6 @@
 -- A sheet's records written up to a byte place: what stands in the buffer and what is to come make up all of them.
 use mathlib.Core.Path.{◌≡◌, refl, sym, ap, ap₂, ◌∙◌}
+use Rattle.std.specs.Prelude.{Option, Some, None, IsSome}
 use mathlib.Core.List.{List, [], ◌∷◌, ◌++◌, append_assoc, append-nil}
 use Prim.Native.Nat.{ℕ, suc, ◌+◌, ◌-◌, ◌≤◌, ◌<◌}
 use native.Mathlib.Omega.{arith}
@@ -11,13 +12,11 @@ use Rattle.mtas.specs.Call.{Call}
 use Rattle.mtas.specs.Record.{record_of, encode_call}
 use Rattle.record.specs.Encoded.{Holds}
 use Rattle.record.proofs.Within.{as_long}
-use Rattle.record.specs.declared.Encoded.{Encoded}
+use Rattle.record.specs.declared.encoded.Encoded.{Encoded}
 use Rattle.sheet.specs.Reading.{row, Rows, calls, wrong_at, one_call, rows_from, rows}
-use Rattle.sheet.specs.Found.{slots_of, Sound, RowIs, Fitting, records_in}
+use Rattle.sheet.specs.Found.{slots_of, Sound, RowIs, records_in}
 use Rattle.sheet.specs.Converted.{records, over}
 use Rattle.sheet.specs.declared.reading.Call.{Call as Called}
-use Rattle.sheet.specs.declared.reading.Row.{Row}
-use Rattle.sheet.specs.declared.reading.Row.TheVariants.{Of, Other}
 use Rattle.sheet.proofs.Sizing.{Got, no_call, a_call, place}
 use Rattle.sheet.proofs.Sheets.{rows_read, rows_wrong, rows_none}
 
@@ -34,21 +33,6 @@ pub record Writing (c : ℕ) (csv out₀ out : List ℕ) (at used : ℕ) : Type 
   pub behind : drop used out ≡ drop used out₀
   pub size : length out ≡ length out₀
   pub room : length (records_in c (rows csv)) ≤ length out₀
-
-pub writing_start : (c : ℕ) (csv out : List ℕ) → Fitting c csv (length out) → Writing c csv out out 0 0
-writing_start c csv out f = record {
-  fuel = suc (length csv);
-  line = 1;
-  left = f.all;
-  inside = omega arith;
-  enough = omega arith;
-  to_come = f.good;
-  used_so = rw f.good (omega arith);
-  written = rw f.good;
-  behind = refl;
-  size = refl;
-  room = rw f.good f.room;
-}
 
 -- ---- the rows to come
 more-calls : (k : Call) (s : Rows) (ls : List Call) → one_call k s ≡ calls ls → (ms : List Call) × (s ≡ calls ms) × (ls ≡ k ∷ ms)
@@ -73,17 +57,21 @@ module _ {c : ℕ} {csv out₀ out : List ℕ} {at used : ℕ} (g : Writing c cs
       no_calls : {ls : List Call} → calls ls ≡ calls [] → ls ≡ []
       no_calls e = cc
 
-  module _ (more : at < length csv) {r : Row} (i : RowIs (take (length csv - at) (drop at csv)) r) where
+  module _ (more : at < length csv) {r : Option (Called × ℕ)} (i : RowIs (take (length csv - at) (drop at csv)) r) where
     some : 0 < length (drop at csv)
     some = omega (arith, length-drop at csv)
 
     -- a good sheet has no wrong row
-    pub writing_right : r ≡ Other → ⊥
-    writing_right e =
-        let w : calls g.left ≡ wrong_at g.line = sym g.to_come ∙ rows_wrong g.fuel g.line (drop at csv) some enough (no_call csv at i e) in
-        let z : ◌≡◌ {A = ℕ} 0 1 = cc in absurd (omega arith)
+    pub writing_some : IsSome r
+    writing_some = go r refl
+      where
+        go : (q : Option (Called × ℕ)) → r ≡ q → IsSome q
+        go (Some x) e = refl
+        go None e =
+            let w : calls g.left ≡ wrong_at g.line = sym g.to_come ∙ rows_wrong g.fuel g.line (drop at csv) some enough (no_call csv at i e) in
+            let z : ◌≡◌ {A = ℕ} 0 1 = cc in absurd (omega arith)
 
-    module _ {k : Called} {next : ℕ} (e : r ≡ Of k next) where
+    module _ {k : Called} {next : ℕ} (e : r ≡ Some (k, next)) where
       its : Sound (drop at csv) k next
       its = place csv at i e
 

@@ -1,9 +1,7 @@
 -- The caller that the program's argument names.
-use Rattle.std.specs.Prelude.{◌≡◌, Bool, true, false, ◌&&◌, not, List, [], ◌∷◌, ℕ, ◌≤◌, ◌<◌, eqb, leb}
+use Rattle.std.specs.Prelude.{◌≡◌, Option, Some, None, Bool, true, false, ◌&&◌, not, List, [], ◌∷◌, ℕ, ◌≤◌, ◌<◌, eqb, leb}
 use Rattle.lines.specs.Decimal.{decimal}
 use Rattle.sheet.specs.Reading.{number}
-use Rattle.sheet.specs.declared.Caller.{Caller}
-use Rattle.sheet.specs.declared.Caller.TheVariants.{Number, Other}
 
 unfoldable pub all_digits : List ℕ → Bool
 all_digits [] = true
@@ -23,9 +21,9 @@ pub data CallerNamed : Type 0 where
 abbrev pub caller_in : List ℕ → CallerNamed
 caller_in t = elim (is_decimal t) [ true ↦ a_caller (number t) | false ↦ no_caller ]
 
-abbrev pub named_of : Caller → CallerNamed
-named_of (Number n) = a_caller n
-named_of Other = no_caller
+abbrev pub named_of : Option ℕ → CallerNamed
+named_of (Some n) = a_caller n
+named_of None = no_caller
 
 -- every number names a caller: itself up to 15, and above it one that the converter turns down; no other text does
 pub record CallerLaws : Type 0 where
@@ -33,5 +31,5 @@ pub record CallerLaws : Type 0 where
   pub above : (n : ℕ) → 15 < n → caller_in (decimal n) ≡ a_caller 16
   pub no_number : (t : List ℕ) → ((n : ℕ) → t ≡ decimal n → ⊥) → caller_in t ≡ no_caller
   -- what the code answers then
-  pub number_told : (r : Caller) (n : ℕ) → named_of r ≡ a_caller n → r ≡ Number n
-  pub other_told : (r : Caller) → named_of r ≡ no_caller → r ≡ Other
+  pub number_told : (r : Option ℕ) (n : ℕ) → named_of r ≡ a_caller n → r ≡ Some n
+  pub other_told : (r : Option ℕ) → named_of r ≡ no_caller → r ≡ None

@@ -1,7 +1,7 @@
 // A field of CSV, as RFC 4180 has it, in front of bytes.
 ghost use Rattle.std.specs.Prelude.{◌≡◌, length};
+ghost use Rattle.std.specs.List.{take_while};
 ghost use Rattle.sheet.specs.Rfc4180.{textdata};
-ghost use Rattle.sheet.specs.Reading.{textual};
 ghost use Rattle.sheet.specs.Found.{FieldIs};
 
 pub const COMMA: u8 = 44;
@@ -9,35 +9,21 @@ pub const COMMA: u8 = 44;
 const DQUOTE: u8 = 34;
 
 // Whether a byte is TEXTDATA.
+#[tactic(auto, unfolding(crate::specs::Rfc4180::textdata))]
 fn textdata(x: u8) -> bool
     ensures { result ≡ textdata x }
 {
-    if x < 32 {
-        return false;
-    }
-    if x > 126 {
-        return false;
-    }
-    if x == DQUOTE {
-        return false;
-    }
-    x != COMMA
+    matches!(x, 32..=126) && x != DQUOTE && x != COMMA
 }
 
 // How many bytes of TEXTDATA there are in front.
 fn text_length(left: &[u8]) -> usize
-    ensures { result ≡ length (textual left.now) }
+    ensures { result ≡ length (take_while textdata left.now) }
 {
-    let mut i = 0;
-    while i < left.len() {
-        if !textdata(left[i]) {
-            return i;
-        }
-        i += 1;
-    }
-    i
+    left.iter().take_while(|x| textdata(**x)).count()
 }
 
+// Places and no slices: with slices the proof of `read_field` didn't close.
 // Where a field's text lies, and the place behind the field. One whose text isn't TEXTDATA alone, or that no quote closes, has an empty text here: neither is a word or a number.
 #[derive(Clone, Copy)]
 pub struct Field {

@@ -3,90 +3,52 @@ ghost use Rattle.std.specs.Prelude.{◌≤◌};
 ghost use Rattle.sheet.specs.Found.{ArgumentIs, ArgumentsAre, EndIs, RowIs};
 
 use crate::{csv, form};
+use form::Named;
 use record::Slots;
 
 const CR: u8 = 13;
 
 const LF: u8 = 10;
 
-// A number, and the place behind it.
-#[derive(Clone, Copy)]
-enum Argument {
-    Number(u8, usize),
-    Other,
-}
-
-// The comma in front and the number behind it.
-fn read_argument(left: &[u8]) -> Argument
+// The comma in front and the number behind it: the number, and the place behind it.
+fn read_argument(left: &[u8]) -> Option<(u8, usize)>
     ensures { ArgumentIs left.now result }
 {
     if bits::byte_at(left, 0) != csv::COMMA {
-        return Argument::Other;
+        return None;
     }
     let behind = &left[1..];
     let f = csv::read_field(behind);
-    let from = f.from;
-    let to = f.to;
-    let n = form::number(&behind[from..to]);
-    if n > 15 {
-        return Argument::Other;
-    }
-    Argument::Number(n, 1 + f.next)
+    let n = form::number(&behind[f.from..f.to])?;
+    Some((n, 1 + f.next))
 }
 
-// Numbers, and the place behind them.
-#[derive(Clone, Copy)]
-enum Arguments {
-    Numbers(Slots, usize),
-    Other,
-}
-
-// So many arguments in front.
-fn read_arguments(left: &[u8], count: usize) -> Arguments
+// So many arguments in front, and the place behind them.
+fn read_arguments(left: &[u8], count: usize) -> Option<(Slots, usize)>
     requires { count ≤ 3 }
     ensures { ArgumentsAre count left.now result }
 {
     let mut numbers = [0u8; 3];
     let mut at = 0;
-    let mut i = 0;
-    while i < count {
-        let Argument::Number(n, next) = read_argument(&left[at..]) else {
-            return Arguments::Other;
-        };
-        numbers[i] = n;
+    for number in &mut numbers[..count] {
+        let (n, next) = read_argument(&left[at..])?;
+        *number = n;
         at += next;
-        i += 1;
     }
-    Arguments::Numbers(
-        Slots {
-            x: numbers[0],
-            y: numbers[1],
-            z: numbers[2],
-        },
-        at,
-    )
+    let [x, y, z] = numbers;
+    Some((Slots { x, y, z }, at))
 }
 
-// The place behind a row's end.
-#[derive(Clone, Copy)]
-enum End {
-    Place(usize),
-    Other,
-}
-
-// The row's end in front: the sheet's end, or CR and LF.
-fn read_end(left: &[u8]) -> End
+// The row's end in front, the sheet's end or CR and LF: the place behind it.
+#[tactic(auto, unfolding(crate::specs::Reading::ended))]
+fn read_end(left: &[u8]) -> Option<usize>
     ensures { EndIs left.now result }
 {
-    if left.len() == 0 {
-        return End::Place(0);
+    match left {
+        [] => Some(0),
+        [CR, LF, ..] => Some(2),
+        _ => None,
     }
-    if bits::byte_at(left, 0) == CR {
-        if bits::byte_at(left, 1) == LF {
-            return End::Place(2);
-        }
-    }
-    End::Other
 }
 
 // A row's call: its kind, the number of its arguments, and these.
@@ -97,37 +59,15 @@ pub struct Call {
     pub slots: Slots,
 }
 
-// A call, and the place behind its row.
-#[derive(Clone, Copy)]
-pub enum Row {
-    Of(Call, usize),
-    Other,
-}
-
-// The row in front.
-pub fn read_row(left: &[u8]) -> Row
+// The row in front: its call, and the place behind it.
+pub fn read_row(left: &[u8]) -> Option<(Call, usize)>
     ensures { RowIs left.now result }
 {
     let f = csv::read_field(left);
-    let from = f.from;
-    let to = f.to;
-    let next = f.next;
-    let word = form::call_named(&left[from..to]);
-    let count = word.count;
-    if count == 0 {
-        return Row::Other;
-    }
-    let behind = &left[next..];
-    let Arguments::Numbers(slots, at) = read_arguments(behind, count) else {
-        return Row::Other;
-    };
-    let End::Place(n) = read_end(&behind[at..]) else {
-        return Row::Other;
-    };
-    let call = Call {
-        kind: word.kind,
-        count,
-        slots,
-    };
-    Row::Of(call, next + at + n)
+    let Named { kind, count } = form::call_named(&left[f.from..f.to])?;
+    let behind = &left[f.next..];
+    let (slots, at) = read_arguments(behind, count)?;
+    let n = read_end(&behind[at..])?;
+    let call = Call { kind, count, slots };
+    Some((call, f.next + at + n))
 }

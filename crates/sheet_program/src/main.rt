@@ -4,7 +4,7 @@
 
 ghost use Rattle.std.specs.Prelude.{◌≤◌, length, IfSome};
 
-use sheet::Caller;
+use sheet::Answer;
 use std::env::{Env, FillError};
 use std::io::Read;
 
@@ -38,15 +38,13 @@ fn convert(out: &impl Print, errors: &impl Print, csv: &[u8], caller: u8)
     requires { length csv.now ≤ 262144 }
 {
     let mut records = [0u8; 65536];
-    let answer = sheet::convert(csv, caller, &mut records);
-    if answer.error != 0 {
+    let converted = sheet::convert(csv, caller, &mut records);
+    let Ok(bytes) = converted else {
+        let answer = Answer::from(converted);
         let line = lines::wrong(answer.error, answer.line as u32);
-        let len = line.len;
-        let text = line.bytes;
-        complain(errors, &text[..len]);
+        complain(errors, line.as_slice());
         return;
-    }
-    let bytes = answer.bytes;
+    };
     if out.write_all(&records[..bytes]).is_err() {
         complain(errors, b"sheet: not all records could be written\n");
     }
@@ -70,7 +68,7 @@ fn main(rt: HostRuntime) {
         );
         return;
     };
-    let Caller::Number(caller) = sheet::caller_in(&text[..len]) else {
+    let Some(caller) = sheet::caller_in(&text[..len]) else {
         complain(
             &errors,
             b"sheet: the argument must be the caller's number, from 0 to 15, without leading zeros\n",

@@ -6,16 +6,18 @@ ghost use Rattle.std.specs.Prelude.{◌≡◌};
 ghost use Rattle.mtas.specs.Monitor.{start, monitor};
 ghost use Rattle.monitor.specs.Contract.{answer_of};
 ghost use Rattle.sheet.specs.Converted.{converted};
+ghost use Rattle.sheet.specs.Found as Sheet;
 ghost use Rattle.press.specs.Acted.{ends_in, act};
 ghost use Rattle.yermoitu.specs.Packed.{packed_answer, Returns};
 ghost use Rattle.yermoitu.specs.PackedSheet.{with_told, packed_sheet, Converts};
 
-use monitor::Answer;
+use monitor::{Answer, Outcome};
 
-// The four numbers of an answer in one.
-fn pack(answer: Answer) -> u64
-    ensures { result ≡ packed_answer (answer_of answer) }
+// The four numbers of an outcome in one. C has no enums with data, so that its functions answer a number.
+fn pack(outcome: Outcome) -> u64
+    ensures { result ≡ packed_answer (answer_of outcome) }
 {
+    let answer = Answer::from(outcome);
     answer.refusal as u64
         + 65536 * (answer.verdict as u64)
         + 4294967296 * (answer.issuer as u64)
@@ -36,7 +38,7 @@ pub fn yermoitu_call(state: &mut [u16], record: &[u8]) -> u64
     pack(monitor::call(state, record))
 }
 
-// An error, and what is told of it.
+// An error, and what is told of it, in one number for C.
 fn with_told(error: u16, told: usize) -> u64
     ensures { result ≡ with_told error told }
 {
@@ -44,9 +46,10 @@ fn with_told(error: u16, told: usize) -> u64
 }
 
 // The line is told where the error is 15, else the bytes.
-fn pack_sheet(answer: sheet::Answer) -> u64
-    ensures { result ≡ packed_sheet answer.error answer.line answer.bytes }
+fn pack_sheet(converted: Result<usize, sheet::Error>) -> u64
+    ensures { result ≡ packed_sheet (Sheet.answer_of converted).error (Sheet.answer_of converted).line (Sheet.answer_of converted).bytes }
 {
+    let answer = sheet::Answer::from(converted);
     if answer.error == 15 {
         return with_told(answer.error, answer.line);
     }
@@ -72,5 +75,8 @@ pub fn yermoitu_press(
 ) -> u64
     ensures { act state.old owners.now stages.old press action issuer session ≡ ends_in result stages.new state.new }
 {
-    press::act(state, owners, stages, press, action, issuer, session) as u64
+    match press::act(state, owners, stages, press, action, issuer, session) {
+        Ok(()) => 0,
+        Err(error) => u16::from(error) as u64,
+    }
 }

@@ -1,16 +1,11 @@
-use mathlib.Core.Path.{◌≡◌, refl}
-use native.Mathlib.Numerals.{add-one}
-use native.Mathlib.Omega.{arith}
-use Rattle.bits.specs.Gather.{gather}
+-- `bits::gather_row` meets its contract: a row's stray bits, found beside none, gathered.
+use Rattle.std.proofs.Common.{rules, ◌∙◌, get_or, ◌≡◌}
+use Rattle.bits.proofs.Gather.{gather_ext, none_or}
+use Rattle.bits.proofs.Roles.{no_bits}
 use Rattle.bits.proofs.gather_row.Goals as goal
 
-pub loop-i-init : goal.loop-i-init
-unfolding gather
-loop-i-init c = (omega arith, refl)
-
-pub loop-i-preserved : goal.loop-i-preserved
-unfolding gather
-loop-i-preserved c = (omega arith, rw (add-one, c.loop-i.invariant.1))
-
 pub returns : goal.returns
-returns c = let end : c.loop-i.i ≡ 16 = omega arith in rw end at c.loop-i.invariant.1
+returns c =
+    c.gather.ensures ∙ gather_ext 16 _ _ (λ i l.
+    let none : get_or c.empty.result.words i 0 ≡ 0 = no_bits c.empty.result.words i c.empty.ensures (search rules) in
+    c.stray_row.ensures.each i l ∙ rw none (none_or _))

@@ -1,5 +1,5 @@
 -- `hierarchy::above_one` meets its contract: the walk upwards from the set of the one role.
-use borrow.Author.Rules.{rules}
+use Rattle.std.proofs.Common.{rules}
 use Rattle.hierarchy.proofs.Links.{linked_numbered}
 use Rattle.hierarchy.proofs.One.{one_reached}
 use Rattle.hierarchy.proofs.above_one.Goals as goal

@@ -1,8 +1,4 @@
-use borrow.Author.Rules.{rules}
-use mathlib.Core.Path.{◌≡◌, sym, ◌∙◌}
-use Prim.Native.Nat.{◌<◌}
-use native.Mathlib.Omega.{arith}
-use lib.ListN.{length-set}
+use Rattle.std.proofs.Common.{◌≡◌, ◌<◌, sym, ◌∙◌, arith, length-set, rules}
 use Rattle.hierarchy.proofs.Climbing.{lifted_none, lifted_more, lifted_all, fewer_left, word_inside, round_none, round_more, round_idle, round_all, climb_ends, climb_less}
 use Rattle.hierarchy.proofs.Links.{linked_numbered}
 use Rattle.hierarchy.proofs.Rows.{none-outside}
@@ -13,26 +9,26 @@ pub loop-done-init : goal.loop-done-init
 loop-done-init c = (search rules, search rules, search rules, search rules)
 
 pub loop-i-init : goal.loop-i-init
-loop-i-init c = let l = c.loop-done in (omega arith, l.invariant.0, l.invariant.2, round_none l.invariant.1)
+loop-i-init c = let (seen, done, long, climbing) = c.loop-done.invariant in (seen, long, round_none done)
 
 pub loop-done-smaller : goal.loop-done-smaller
 loop-done-smaller c =
     let l = c.loop-done in
     let m = c.loop-i in
     let end : m.i ≡ 16 = omega arith in
-    climb_less (round_all (rw end at m.invariant.3)) (λ w. c.loop-done-test.true (c.gather_row.ensures ∙ (none-outside l.invariant.0 l.invariant.1).1 w))
+    climb_less (round_all (rw end at m.invariant.2)) (λ w. c.loop-done-test.true (c.gather_row.ensures ∙ (none-outside l.invariant.1).1 w))
 
 pub loop-done-preserved : goal.loop-done-preserved
 loop-done-preserved c =
     let l = c.loop-done in
     let m = c.loop-i in
     let end : m.i ≡ 16 = omega arith in
-    (m.invariant.1, m.invariant.3.wide, m.invariant.2, (round_all (rw end at m.invariant.3)).goes_on _ l.invariant.3)
+    (m.invariant.0, m.invariant.2.wide, m.invariant.1, (round_all (rw end at m.invariant.2)).goes_on _ l.invariant.3)
 
 pub loop-rest-init : goal.loop-rest-init
 loop-rest-init c =
     let m = c.loop-i in
-    (m.invariant.1, lifted_none (word_inside (linked_numbered _) m.i (omega arith) m.seen.words m.done.words m.invariant.3))
+    (m.invariant.0, lifted_none (word_inside (linked_numbered _) m.i (omega arith) m.seen.words m.done.words m.invariant.2))
 
 pub loop-rest-smaller : goal.loop-rest-smaller
 loop-rest-smaller c =
@@ -54,21 +50,20 @@ pub loop-i-preserved : goal.loop-i-preserved
 loop-i-preserved c =
     let m = c.loop-i in
     let li : m.i < 16 = omega arith in (
-      omega arith,
-      elim c.if-rest-ne0.branch [ then-rest-ne0+else-loop-rest-test w ↦ rw w.seen-is w.loop-rest.invariant.0 | else-rest-ne0 w ↦ rw w.seen-is m.invariant.1 ],
+      elim c.if-rest-ne0.branch [ then-rest-ne0+else-loop-rest-test w ↦ rw w.seen-is w.loop-rest.invariant.0 | else-rest-ne0 w ↦ rw w.seen-is m.invariant.0 ],
       elim c.if-rest-ne0.branch [
-        | then-rest-ne0+else-loop-rest-test w ↦ rw w.done-is (simp length-set m.invariant.2)
-        | else-rest-ne0 w ↦ rw w.done-is m.invariant.2
+        | then-rest-ne0+else-loop-rest-test w ↦ rw w.done-is (simp length-set m.invariant.1)
+        | else-rest-ne0 w ↦ rw w.done-is m.invariant.1
       ],
       elim c.if-rest-ne0.branch [
         | then-rest-ne0+else-loop-rest-test w ↦
             rw (w.seen-is, w.done-is)
-            (round_more (linked_numbered _) m.i li m.seen.words m.done.words m.invariant.3 (lifted_all (search rules) w.loop-rest.invariant.1) (omega arith) (w.loop-rest.invariant.0.each m.i).fits)
-        | else-rest-ne0 w ↦ rw (w.seen-is, w.done-is) (round_idle (linked_numbered _) m.i li m.seen.words m.done.words m.invariant.3 w.if-rest-ne0.false)
+            (round_more (linked_numbered _) m.i li m.seen.words m.done.words m.invariant.2 (lifted_all (search rules) w.loop-rest.invariant.1) (omega arith) (w.loop-rest.invariant.0.each m.i).fits)
+        | else-rest-ne0 w ↦ rw (w.seen-is, w.done-is) (round_idle (linked_numbered _) m.i li m.seen.words m.done.words m.invariant.2 w.if-rest-ne0.false)
       ],
     )
 
 pub returns : goal.returns
 returns c =
     let l = c.loop-done in
-    climb_ends (linked_numbered _) l.invariant.3 ((none-outside l.invariant.0 l.invariant.1).0 (sym c.gather_row.ensures ∙ c.loop-done-test.false))
+    climb_ends (linked_numbered _) l.invariant.3 ((none-outside l.invariant.1).0 (sym c.gather_row.ensures ∙ c.loop-done-test.false))

@@ -1,9 +1,6 @@
 -- The invariants: a walk from the set is on its way; its round has come to the issuer i; of this issuer all are lifted but the roles of the rest.
 -- The measures: the roles that are not done; the issuers left; the roles of the issuer that are not lifted.
-use mathlib.Core.Path.{◌≡◌}
-use mathlib.Core.Bool.{not, ◌&&◌}
-use Prim.Native.Nat.{◌-◌, ◌≤◌}
-use lib.ListN.{length}
+use Rattle.std.proofs.Common.{◌≡◌, ◌-◌, not, ◌&&◌, length}
 use Rattle.bits.specs.Below.{tally}
 use Rattle.bits.specs.Bit.{bit}
 use Rattle.bits.specs.RoleSet.{in_set}
@@ -21,7 +18,7 @@ abbrev pub decreases-loop-rest : goal.decreases-loop-rest
 decreases-loop-rest l = 16 - tally 16 (λ q. in_set l.seen.words l.i q && not (bit l.rest q))
 
 abbrev pub invariant-loop-i : goal.invariant-loop-i
-invariant-loop-i l = (l.i ≤ 16) × Wide l.seen.words × (length l.done.words ≡ 16) × RoundTo (linked l.links) l.i l.initial.seen.words l.initial.done.words l.seen.words l.done.words
+invariant-loop-i l = Wide l.seen.words × (length l.done.words ≡ 16) × RoundTo (linked l.links) l.i l.initial.seen.words l.initial.done.words l.seen.words l.done.words
 
 abbrev pub invariant-loop-done : goal.invariant-loop-done
 invariant-loop-done l = Wide l.seen.words × Wide l.done.words × (length l.done.words ≡ 16) × Climbing (linked l.links) l.initial.seen.words l.seen.words l.done.words

@@ -1,37 +1,21 @@
 -- A read puts its bytes behind those that stand at the start of the buffer, and leaves these as they are.
-use Rattle.std.proofs.Common.{◌≡◌, ℕ, ◌+◌, ◌-◌, ◌≤◌, List, ◌++◌, rules, arith, length, take, slice_range, sym, ap, ◌∙◌, subst, le_refl, drop_at, length-take-le}
-use Rattle.std.proofs.lemmas.Slice.{take-put_mid_below}
+use Rattle.std.proofs.Common.{◌≡◌, ℕ, ◌+◌, ◌≤◌, List, ◌++◌, rules, length, take, sym, ap, ◌∙◌, subst, length-take-le}
+use Rattle.std.proofs.lemmas.List.{take-append-le}
+use Rattle.std.proofs.Math.Seq.{take-append-add}
 use Rattle.std.specs.Io.KnownBytes.{Consumes}
 use Rattle.std.proofs.KnownBytes.{Consumes-trans}
 use borrow.Rule.Slice.PartMut.{put_mid, post_of}
-use lib.Seq.{take-add, take-append-le}
 use Rattle.input.proofs.fill.Goals as goal
 
--- the first b bytes are the first a, which stayed, and those behind them
-first_then_more : (a b : ℕ) (old new : List ℕ) → a ≤ b → take a new ≡ take a old → take a old ++ slice_range new a b ≡ take b new
-first_then_more a b old new h front =
-    let same : a + (b - a) ≡ b = omega arith in
-    ap (λ l. l ++ slice_range new a b) (sym front) ∙ sym (take-add a (b - a) new) ∙ ap (λ n. take n new) same
-
--- behind the first a bytes stands what was put there
-put_behind : (a k n : ℕ) (xs ys : List ℕ) → a ≤ length xs → n ≤ length ys → slice_range (put_mid a k xs ys) a (a + n) ≡ take n ys
-put_behind a k n xs ys within fits =
-    let same : (a + n) - a ≡ n = omega arith in
-    let after = post_of a k xs in
-    ap (take ((a + n) - a)) (drop_at (take a xs) (ys ++ after) a (length-take-le a xs within))
-    ∙ ap (λ m. take m (ys ++ after)) same
-    ∙ take-append-le n ys after fits
+-- n bytes more behind the first a
+more : (a k n : ℕ) (old new : List ℕ) → a ≤ length old → n ≤ length new → take a old ++ take n new ≡ take (a + n) (put_mid a k old new)
+more a k n old new within fits =
+    let e = length-take-le a old within in
+    sym (ap (λ m. take (m + n) (put_mid a k old new)) (sym e) ∙ take-append-add (take a old) (new ++ post_of a k old) n ∙ ap (λ l. take a old ++ l) (take-append-le n new (post_of a k old) fits))
 
 pub loop-size-preserved : goal.loop-size-preserved
-loop-size-preserved g c =
-    let from = c.loop-size.size in
-    let room = length c.loop-size.buffer - from in
-    let within = c.loop-size.invariant.0 in
-    let part = put_behind from room c.in-Ok.n c.loop-size.buffer c.read.new.buf within c.in-Ok.ensures.bound.0 in
-    let joined =
-    first_then_more from (from + c.in-Ok.n) c.loop-size.buffer (put_mid from room c.loop-size.buffer c.read.new.buf) (omega arith)
-    (take-put_mid_below _ _ _ _ _ (le_refl _) within)
-    in (
-      search rules,
-      subst (Consumes _ _) (ap (λ l. take from c.loop-size.buffer ++ l) (sym part) ∙ joined) (Consumes-trans _ _ _ _ _ c.loop-size.invariant.1 c.in-Ok.ensures.bytes.0),
-    )
+loop-size-preserved g c = (
+  search rules,
+  subst (Consumes _ _) (more _ _ _ c.loop-size.buffer c.read.new.buf c.loop-size.invariant.0 c.in-Ok.ensures.bound.0)
+      (Consumes-trans _ _ _ _ _ c.loop-size.invariant.1 c.in-Ok.ensures.bytes.0),
+)

@@ -1,13 +1,20 @@
 -- `press::turned_away` meets its contract: the record made is the owner's question, and the desk leaves every word.
-use Rattle.record.proofs.Within.{as_long, in_its_bytes}
+use Rattle.std.proofs.Common.{◌≡◌, Some, None, rules}
+use Rattle.monitor.specs.Contract.{answer_of}
+use Rattle.mtas.specs.Monitor.{monitor}
+use Rattle.press.specs.Acted.{question, turned_away}
 use Rattle.press.proofs.Acting.{is_answered, words_kept}
 use Rattle.press.proofs.turned_away.Goals as goal
+use Rattle.press.proofs.turned_away.Goals.{in-Ok-Some, in_default, in_default-2}
 
-pub slice_bounds-bytes-end : goal.slice_bounds-bytes-end
-slice_bounds-bytes-end c = search in_its_bytes
+pub returns-clause-value : goal.returns-clause-value
+returns-clause-value c =
+    let q : turned_away (answer_of c.call-outcome.result) ≡ turned_away (monitor c.args.state.now (question c.args.owner c.args.action c.args.issuer c.args.session)).answer = search is_answered in
+    elim c.match-matches.branch [
+      | in-Ok-Some w ↦ let f : w.in-Ok-Some.field-0 ≡ Some w.in-Ok-Some.field-0-0 = rw w.in-Ok-Some.is at w.in-Ok-Some.field-0-is in rw w.matches-is (rw (w.in-Ok-Some.is, f) at q)
+      | in_default w ↦ let f : w.in_default.field-0 ≡ None = search rules in rw w.matches-is (rw (w.in_default.is, f) at q)
+      | in_default-2 w ↦ rw w.matches-is (rw w.in_default.is at q)
+    ]
 
-pub slice_bounds-call-end : goal.slice_bounds-call-end
-slice_bounds-call-end c = search as_long
-
-pub returns : goal.returns
-returns c = record { value = search is_answered; state_unchanged = search words_kept }
+pub returns-clause-state_unchanged : goal.returns-clause-state_unchanged
+returns-clause-state_unchanged c = search words_kept

@@ -1,6 +1,5 @@
 -- `record::decode` meets its contract: the tests that led to a `return` say which case of the model's `decode` holds.
-use mathlib.Core.Path.{sym}
-use native.Mathlib.Omega.{arith}
+use Rattle.std.proofs.Common.{sym, arith}
 use Rattle.mtas.proofs.Record.{short}
 use Rattle.record.proofs.Bytes.{empty, wrong_length, right_length, decodes}
 use Rattle.record.proofs.decode.Goals as goal

@@ -1,9 +1,8 @@
 -- The invariant: what is found is gathered from the first s sessions.
-use mathlib.Core.Path.{◌≡◌}
-use Prim.Native.Nat.{◌≤◌}
+use Rattle.std.proofs.Common.{◌≡◌}
 use Rattle.bits.specs.Gather.{gather}
 use Rattle.sessions.specs.Lesser.{awake}
 use Rattle.sessions.proofs.awake.Given as goal
 
 abbrev pub invariant-loop-s : goal.invariant-loop-s
-invariant-loop-s l = (l.s ≤ 16) × (l.found ≡ gather l.s (awake l.state l.i))
+invariant-loop-s l = l.found ≡ gather l.s (awake l.state l.i)

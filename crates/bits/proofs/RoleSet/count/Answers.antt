@@ -1,37 +1,22 @@
-use borrow.Author.Rules.{rules}
-use mathlib.Core.Path.{◌≡◌, refl}
-use Prim.Native.Nat.{◌*◌, ◌/◌, ◌%◌}
-use native.Mathlib.Omega.{arith}
-use lib.Count.{ones-le}
-use lib.ListN.{get_or}
-use mir.Syntax.{w16}
-use mir.Val.{Fits}
-use Rattle.bits.specs.Below.{tally}
-use Rattle.bits.specs.RoleSet.{in_set}
+-- `RoleSet::count` meets its contract: the set bits of its words are as many as its roles.
+use Rattle.std.proofs.Common.{rules, arith, ◌∙◌, ◌<◌, ◌/◌, ◌%◌}
+use Rattle.std.proofs.lemmas.Iterator.{YieldsList-from_slice, YieldsList-from_map}
+use Rattle.std.proofs.lemmas.Iterator.Consumers.{sum_by_from_yields_List, fits_by_from_yields_list}
+use lib.Count.{ones}
+use Rattle.bits.specs.RoleSet.{in_set, size}
 use Rattle.bits.proofs.Below.{tally-le}
-use Rattle.bits.proofs.Sizes.{size-more}
+use Rattle.bits.proofs.Sizes.{size_sum}
 use Rattle.bits.proofs.RoleSet.count.Goals as goal
 
-pub loop-i-init : goal.loop-i-init
-unfolding tally
-loop-i-init c = (omega arith, refl)
-
-pub overflow_cast-count : goal.overflow_cast-count
-overflow_cast-count c =
-    let wide : Fits w16 (get_or c.args.self.words c.loop-i.i 0) = search rules in
-    record { fits = omega (arith, ones-le 16 _ wide.fits) }
-
-pub overflow_add-count : goal.overflow_add-count
-overflow_add-count c =
-    let l = c.loop-i in
-    let wide : Fits w16 (get_or c.args.self.words l.i 0) = search rules in
-    record { fits = omega (arith, ones-le 16 _ wide.fits, l.invariant.1, tally-le (16 * l.i) (λ k. in_set c.args.self.words (k / 16) (k % 16))) }
-
-pub loop-i-preserved : goal.loop-i-preserved
-loop-i-preserved c =
-    let l = c.loop-i in
-    let wide : Fits w16 (get_or c.args.self.words l.i 0) = search rules in
-    (omega arith, omega (arith, l.invariant.1, size-more c.args.self.words l.i wide.fits))
+pub sum-requires-clause-fits : goal.sum-requires-clause-fits
+sum-requires-clause-fits c =
+    let all : size c.args.self.words < 65536 = omega (arith, tally-le 256 (λ k. in_set c.args.self.words (k / 16) (k % 16))) in
+    fits_by_from_yields_list ones c.args.self.words c.map.result _
+    (YieldsList-from_map _ ones (YieldsList-from_slice c.args.self.words cc) c.map.ensures.closure (λ x r q k. search rules))
+    (omega (arith, size_sum c.args.self.words (search rules) (λ i. search rules)))
 
 pub returns : goal.returns
-returns c = let end : c.loop-i.i ≡ 16 = omega arith in rw end at c.loop-i.invariant.1
+returns c =
+    sum_by_from_yields_List ones c.args.self.words c.map.result c.sum.result c.sum.ensures.ran
+    (YieldsList-from_map _ ones (YieldsList-from_slice c.args.self.words cc) c.map.ensures.closure (λ x r q k. search rules))
+    ∙ size_sum c.args.self.words (search rules) (λ i. search rules)

@@ -1,15 +1,11 @@
-use mathlib.Core.Path.{◌≡◌, refl}
-use native.Mathlib.Omega.{arith}
-use Rattle.bits.specs.Gather.{gather}
-use Rattle.bits.proofs.Gather.{gather-more}
+-- `RoleSet::gather` meets its contract: a fold over the words gathers them.
+use Rattle.std.proofs.Common.{rules, ◌∙◌, bit_or}
+use Rattle.std.proofs.lemmas.Iterator.{YieldsList-from_slice}
+use Rattle.std.proofs.lemmas.Iterator.Consumers.{fold_from_yields_List}
+use Rattle.bits.proofs.Gather.{fold_gather}
 use Rattle.bits.proofs.RoleSet.gather.Goals as goal
 
-pub loop-i-init : goal.loop-i-init
-unfolding gather
-loop-i-init c = (omega arith, refl)
-
-pub loop-i-preserved : goal.loop-i-preserved
-loop-i-preserved c = (omega arith, gather-more _ _ c.loop-i.invariant.1 refl)
-
 pub returns : goal.returns
-returns c = let end : c.loop-i.i ≡ 16 = omega arith in rw end at c.loop-i.invariant.1
+returns c =
+    fold_from_yields_List _ bit_or 0 _ c.fold.ensures.ran (YieldsList-from_slice c.args.self.words cc) (λ a x b q k. search rules)
+    ∙ fold_gather (λ w. w) c.args.self.words 16 0 (search rules)

@@ -1,20 +1,8 @@
-use borrow.Author.Rules.{rules}
-use mathlib.Core.Path.{◌≡◌, refl}
-use native.Mathlib.Omega.{arith}
-use lib.ListN.{length, length-set}
+-- `RoleSet::union` meets its contract: each word of the new set is the two sets' words or-ed.
+use Rattle.std.proofs.Common.{rules}
+use Rattle.bits.proofs.Each.{from_fn_each}
 use Rattle.bits.proofs.Roles.{union}
-use Rattle.bits.proofs.Stride.{run_none, run_more}
 use Rattle.bits.proofs.RoleSet.union.Goals as goal
 
-pub loop-i-init : goal.loop-i-init
-loop-i-init c = (omega arith, search rules, run_none 0)
-
-pub loop-i-preserved : goal.loop-i-preserved
-loop-i-preserved c =
-    let l = c.loop-i in
-    (omega arith, simp length-set l.invariant.1, run_more 0 l.i (omega arith) (omega arith) refl l.invariant.2)
-
 pub returns : goal.returns
-returns c =
-    let b : length c.args.other.words ≡ 16 = search rules in
-    union (omega arith) c.loop-i.invariant.2
+returns c = union (search rules) (search rules) (search rules) (from_fn_each _ 16 (λ i r q l k. search rules) c.from_fn.ensures.items)

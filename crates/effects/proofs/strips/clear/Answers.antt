@@ -1,19 +1,12 @@
-use borrow.Author.Rules.{rules}
-use native.Mathlib.Omega.{arith}
-use Rattle.effects.proofs.Masking.{none_kept, has_strip, next_lies, next_kept, all_kept}
+-- `effects::strips::clear` meets its contract: a fact of one word.
+use Rattle.effects.proofs.Masking.{strip_by_strip}
 use Rattle.effects.proofs.strips.clear.Goals as goal
 
-pub loop-k-init : goal.loop-k-init
-loop-k-init c = (omega arith, none_kept)
+pub returns-in-Holds : goal.returns-in-Holds
+returns-in-Holds c = rw c.in-Holds.is (search strip_by_strip)
 
-pub strip_of-requires : goal.strip_of-requires
-strip_of-requires c = search (rules, has_strip)
+pub returns-in-Granted : goal.returns-in-Granted
+returns-in-Granted c = rw c.in-Granted.is (search strip_by_strip)
 
-pub mask-requires : goal.mask-requires
-mask-requires c = search (rules, next_lies, has_strip)
-
-pub loop-k-preserved : goal.loop-k-preserved
-loop-k-preserved c = (omega arith, search (rules, next_kept))
-
-pub returns : goal.returns
-returns c = all_kept c.count-n.ensures c.loop-k.invariant.1 (omega arith)
+pub returns-in-Attached : goal.returns-in-Attached
+returns-in-Attached c = rw c.in-Attached.is (search strip_by_strip)

@@ -1,7 +1,6 @@
-use borrow.Author.Rules.{rules}
+use Rattle.std.proofs.Common.{rules}
 use Rattle.hierarchy.proofs.Acyclicity.{tells_full}
-use Rattle.hierarchy.proofs.Rows.{Wide}
 use Rattle.hierarchy.proofs.circles.full.Goals as goal
 
 pub returns : goal.returns
-returns c = let wide : Wide c.args.set.words = search rules in tells_full wide c.gather_row.ensures
+returns c = tells_full (search rules) (search rules) c.eq.ensures

@@ -1,8 +1,4 @@
-use borrow.Author.Rules.{rules}
-use mathlib.Core.Path.{◌≡◌, refl, subst}
-use mathlib.Core.Bool.{true}
-use Prim.Native.Nat.{◌+◌, ◌*◌}
-use native.Mathlib.Omega.{arith}
+use Rattle.std.proofs.Common.{◌≡◌, ◌+◌, ◌*◌, true, refl, subst, arith, rules}
 use Rattle.bits.proofs.Booleans.{clash}
 use Rattle.mtas.specs.Hierarchy.{Role, ◌#◌}
 use Rattle.hierarchy.specs.Links.{linked}
@@ -13,25 +9,19 @@ use Rattle.hierarchy.proofs.circles.tops_of.Goals as goal
 use Rattle.hierarchy.proofs.circles.tops_of.Goals.{then-gather_row-eq0, else-gather_row-eq0}
 
 pub loop-q-init : goal.loop-q-init
-loop-q-init c = (omega arith, tops_none)
+loop-q-init c = tops_none
 
 pub loop-q-preserved : goal.loop-q-preserved
 loop-q-preserved c =
     let links = c.args.links.now in
     let j = c.args.j in
     let l = c.loop-q in
-    let wide : Wide links = record { each = c.type_inv.links } in
     let none : Wide c.empty.result.words = search rules in
-    let k = 16 * j + l.q in (
-      omega arith,
-      elim c.if-gather_row-eq0.branch [
-        | then-gather_row-eq0 w ↦
-            let due = (all_due {k = k} (omega arith) wide none c.gather_row.ensures).0 w.if-gather_row-eq0.true in
-            let bare = subst (λ b. (a : Role) → linked links a b ≡ true → ⊥) (role-at k (j # l.q) refl (omega arith)) (λ a h. clash (due a h) (c.empty.ensures a.issuer a.number)) in
-            rw (w.word-is, w.with_bit-word.ensures) (tops_more l.invariant.1 bare)
-        | else-gather_row-eq0 w ↦ rw w.word-is l.invariant.1
-      ],
-    )
-
-pub returns : goal.returns
-returns c = c.loop-q.invariant.1
+    let k = 16 * j + l.q in
+    elim c.if-gather_row-eq0.branch [
+      | then-gather_row-eq0 w ↦
+          let due = (all_due links {k = k} (omega arith) none c.gather_row.ensures).0 w.if-gather_row-eq0.true in
+          let bare = subst (λ b. (a : Role) → linked links a b ≡ true → ⊥) (role-at k (j # l.q) refl (omega arith)) (λ a h. clash (due a h) (c.empty.ensures a.issuer a.number)) in
+          rw (w.word-is, w.with_bit-word.ensures) (tops_more l.invariant bare)
+      | else-gather_row-eq0 w ↦ rw w.word-is l.invariant
+    ]

@@ -1,8 +1,7 @@
 -- The invariant: no role of the word has a senior.
-use Prim.Native.Nat.{◌≤◌}
 use Rattle.hierarchy.specs.Links.{linked}
 use Rattle.hierarchy.specs.Freed.{TopsOf}
 use Rattle.hierarchy.proofs.circles.tops_of.Given as goal
 
 abbrev pub invariant-loop-q : goal.invariant-loop-q
-invariant-loop-q l = (l.q ≤ 16) × TopsOf (linked l.links) l.j l.word
+invariant-loop-q l = TopsOf (linked l.links) l.j l.word

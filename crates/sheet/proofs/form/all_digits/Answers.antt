@@ -1,15 +1,10 @@
-use borrow.Author.Rules.{rules}
-use Rattle.sheet.proofs.Digits.{to_the_last, below, beyond, one_digit}
+-- `sheet::form::all_digits` meets its contract: `all` tests each byte.
+use Rattle.std.proofs.Common.{rules, ◌&&◌, refl}
+use lib.Dec.{leb}
+use Rattle.std.proofs.lemmas.List.Recursion.{and_is}
+use Rattle.sheet.specs.Caller.{all_digits}
 use Rattle.sheet.proofs.form.all_digits.Goals as goal
 
-pub returns-then-x-lt48 : goal.returns-then-x-lt48
-returns-then-x-lt48 c = search (rules, below)
-
-pub returns-then-x-gt57 : goal.returns-then-x-gt57
-returns-then-x-gt57 c = search (rules, beyond)
-
-pub loop-i-preserved : goal.loop-i-preserved
-loop-i-preserved c = search (rules, one_digit)
-
 pub returns : goal.returns
-returns c = search (rules, to_the_last)
+unfolding all_digits
+returns c = and_is all_digits (λ x. leb 48 x && leb x 57) refl (λ _ _. refl) c.args.text.now 0 _ (search rules) (search rules)

@@ -1,31 +1,35 @@
--- `sheet::form::call_named` meets its contract: the first word that the text is, or none.
-use mathlib.Core.Path.{refl, sym}
-use mathlib.Core.List.{[], ◌∷◌}
+-- `sheet::form::call_named` meets its contract: the word that the text is. That it is none is found from `no_word`.
+use mathlib.Core.Path.{refl}
 use native.Mathlib.Omega.{arith}
 use Rattle.sheet.specs.Form.{user, role, perm, trust, give, grant, attach}
-use Rattle.sheet.proofs.Words.{no_word, the_word}
+use Rattle.sheet.specs.Reading.{kind_named, same}
+use Rattle.sheet.proofs.Words.{the_word}
 use Rattle.sheet.proofs.form.call_named.Goals as goal
 
-pub returns-then-same : goal.returns-then-same
-returns-then-same c = the_word _ ([]) user 5 _ refl tt (sym c.if-same.ensures) 1 refl (omega arith)
+pub returns-in-user : goal.returns-in-user
+unfolding kind_named same
+returns-in-user c = the_word user _ _ refl refl (omega arith) (omega arith) c.args.text.now (omega arith) (omega arith, (omega arith, (omega arith, (omega arith, tt))))
 
-pub returns-then-same-2 : goal.returns-then-same-2
-returns-then-same-2 c = the_word _ ((user, 5) ∷ []) role 7 _ refl (sym c.if-same.ensures, tt) (sym c.if-same-2.ensures) 1 refl (omega arith)
+pub returns-in-role : goal.returns-in-role
+unfolding kind_named same
+returns-in-role c = the_word role _ _ refl refl (omega arith) (omega arith) c.args.text.now (omega arith) (omega arith, (omega arith, (omega arith, (omega arith, tt))))
 
-pub returns-then-same-3 : goal.returns-then-same-3
-returns-then-same-3 c = the_word _ ((user, 5) ∷ (role, 7) ∷ []) perm 9 _ refl (sym c.if-same.ensures, (sym c.if-same-2.ensures, tt)) (sym c.if-same-3.ensures) 1 refl (omega arith)
+pub returns-in-perm : goal.returns-in-perm
+unfolding kind_named same
+returns-in-perm c = the_word perm _ _ refl refl (omega arith) (omega arith) c.args.text.now (omega arith) (omega arith, (omega arith, (omega arith, (omega arith, tt))))
 
-pub returns-then-same-4 : goal.returns-then-same-4
-returns-then-same-4 c = the_word _ ((user, 5) ∷ (role, 7) ∷ (perm, 9) ∷ []) trust 3 _ refl (sym c.if-same.ensures, (sym c.if-same-2.ensures, (sym c.if-same-3.ensures, tt))) (sym c.if-same-4.ensures) 1 refl (omega arith)
+pub returns-in-trust : goal.returns-in-trust
+unfolding kind_named same
+returns-in-trust c = the_word trust _ _ refl refl (omega arith) (omega arith) c.args.text.now (omega arith) (omega arith, (omega arith, (omega arith, (omega arith, (omega arith, tt)))))
 
-pub returns-then-same-5 : goal.returns-then-same-5
-returns-then-same-5 c = the_word _ ((user, 5) ∷ (role, 7) ∷ (perm, 9) ∷ (trust, 3) ∷ []) give 11 _ refl (sym c.if-same.ensures, (sym c.if-same-2.ensures, (sym c.if-same-3.ensures, (sym c.if-same-4.ensures, tt)))) (sym c.if-same-5.ensures) 2 refl (omega arith)
+pub returns-in-give : goal.returns-in-give
+unfolding kind_named same
+returns-in-give c = the_word give _ _ refl refl (omega arith) (omega arith) c.args.text.now (omega arith) (omega arith, (omega arith, (omega arith, (omega arith, tt))))
 
-pub returns-then-same-6 : goal.returns-then-same-6
-returns-then-same-6 c = the_word _ ((user, 5) ∷ (role, 7) ∷ (perm, 9) ∷ (trust, 3) ∷ (give, 11) ∷ []) grant 13 _ refl (sym c.if-same.ensures, (sym c.if-same-2.ensures, (sym c.if-same-3.ensures, (sym c.if-same-4.ensures, (sym c.if-same-5.ensures, tt))))) (sym c.if-same-6.ensures) 3 refl (omega arith)
+pub returns-in-grant : goal.returns-in-grant
+unfolding kind_named same
+returns-in-grant c = the_word grant _ _ refl refl (omega arith) (omega arith) c.args.text.now (omega arith) (omega arith, (omega arith, (omega arith, (omega arith, (omega arith, tt)))))
 
-pub returns-then-same-7 : goal.returns-then-same-7
-returns-then-same-7 c = the_word _ ((user, 5) ∷ (role, 7) ∷ (perm, 9) ∷ (trust, 3) ∷ (give, 11) ∷ (grant, 13) ∷ []) attach 15 _ refl (sym c.if-same.ensures, (sym c.if-same-2.ensures, (sym c.if-same-3.ensures, (sym c.if-same-4.ensures, (sym c.if-same-5.ensures, (sym c.if-same-6.ensures, tt)))))) (sym c.if-same-7.ensures) 3 refl (omega arith)
-
-pub returns : goal.returns
-returns c = no_word _ (sym c.if-same.ensures, (sym c.if-same-2.ensures, (sym c.if-same-3.ensures, (sym c.if-same-4.ensures, (sym c.if-same-5.ensures, (sym c.if-same-6.ensures, (sym c.if-same-7.ensures, tt)))))))
+pub returns-in-attach : goal.returns-in-attach
+unfolding kind_named same
+returns-in-attach c = the_word attach _ _ refl refl (omega arith) (omega arith) c.args.text.now (omega arith) (omega arith, (omega arith, (omega arith, (omega arith, (omega arith, (omega arith, tt))))))

@@ -1,0 +1,6 @@
+-- `effects::strips::clear_user` meets its contract.
+use Rattle.effects.proofs.Masking.{strip_by_strip}
+use Rattle.effects.proofs.strips.clear_user.Goals as goal
+
+pub returns : goal.returns
+returns c = search strip_by_strip depth 30
