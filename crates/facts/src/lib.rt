@@ -108,7 +108,7 @@ pub fn stands(state: &State, fact: Fact) -> bool
     }
 }
 
-// The user of the session i/s, or 65535 where it is closed.
+// The user of the session i/s, or 65535 where it is closed: a number, as in the state's word and in the model, by which guards ask for it.
 pub fn user_of(state: Lawful, i: u8, s: u8) -> u16
     ensures { result ≡ user_of (view state.entry.words.now) i s }
 {

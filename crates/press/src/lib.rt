@@ -13,7 +13,7 @@ mod stage;
 
 const PRESSES: usize = 32;
 
-// Kind 21: may a session use the caller's own permission?
+// Kind 21, a number as the record has it: may a session use the caller's own permission?
 const CHECK_ACCESS: u16 = 21;
 
 // Why an action on a press doesn't go ahead, with the card's numbers.

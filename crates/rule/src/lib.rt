@@ -60,7 +60,7 @@ impl From<Refusal> for u16 {
     }
 }
 
-// A cause of refusal.
+// A cause of refusal. Each form has its refusal first, as the model's guards have.
 #[derive(Clone, Copy)]
 pub enum Guard {
     Absent(Refusal, Fact),

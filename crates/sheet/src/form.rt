@@ -3,7 +3,7 @@ ghost use Rattle.std.specs.Prelude.{◌≡◌};
 ghost use Rattle.sheet.specs.Found.{Names, NumberIs};
 ghost use Rattle.sheet.specs.Caller.{all_digits, is_decimal};
 
-// The kind of a word's call and the number of its arguments.
+// The kind of a word's call, a number as the card's table of words and the record have it, and the number of its arguments.
 #[derive(Clone, Copy)]
 pub struct Named {
     pub kind: u16,

@@ -96,7 +96,7 @@ impl From<Result<usize, Error>> for Answer {
     }
 }
 
-// The caller that a program's argument names, with 16 for every number above 15.
+// The caller that a program's argument names, with 16 for every number above 15: a caller's number like the others, which `convert` turns down.
 pub fn caller_in(text: &[u8]) -> Option<u8>
     ensures { named_of result ≡ caller_in text.now }
 {

@@ -14,7 +14,7 @@ fn complain(errors: &impl Print, line: &[u8]) {
 }
 
 // How many bytes at the start of the buffer are the program's argument; none where it has no argument, or more than one.
-// One that has no room in the buffer is told as no bytes.
+// One that has no room in the buffer is told as no bytes, since no bytes name a caller either.
 fn only_argument(rt: &impl Env, text: &mut [u8]) -> Option<usize>
     ensures { IfSome result (λ len. len ≤ length text.new) }
 {
