@@ -1,5 +1,5 @@
 -- Strips masked and sessions swept are a cut: the words are those of the state without f and all that needs it.
-use Rattle.std.proofs.Common.{◌≡◌, refl, ap, sym, subst, ◌∙◌, ◌⊎◌, inl, inr, Bool, true, false, cond, not, ◌&&◌, List, [], ◌∷◌, ℕ, zero, suc, ◌+◌, ◌*◌, ◌/◌, ◌%◌, ◌<◌, ◌≤◌, arith, bit_and, length, get_or, eq-eqb, Option, unwrap_or}
+use Rattle.std.proofs.Common.{◌≡◌, refl, ap, sym, subst, ◌∙◌, ◌⊎◌, inl, inr, Bool, true, false, cond, not, ◌&&◌, List, [], ◌∷◌, ℕ, zero, suc, ◌+◌, ◌*◌, ◌/◌, ◌%◌, ◌<◌, ◌≤◌, arith, bit_and, length, get_or, eq-eqb, Option, Some, unwrap_or}
 use mathlib.Core.Bool.{and-true, and-false}
 use lib.Bits.{and_le_l}
 use borrow.Author.Tests.{not-true}
@@ -22,7 +22,7 @@ use Rattle.effects.specs.Sweeps.{no_sweep, sweep_of, IsSweep, meant, close, role
 use Rattle.effects.specs.Cut.{Apart, MayCut, Cut}
 use Rattle.effects.proofs.Relied.{Hits, Relies, AllRight, right, lie}
 use Rattle.effects.proofs.Taken.{nth, Hit, taken}
-use Rattle.effects.proofs.Swept.{Meets, Closes, Drops, with_session, alone, goes, session_goes, role_goes}
+use Rattle.effects.proofs.Swept.{Meets, Closes, Drops, with_session, alone, goes, session_goes, role_goes, sweep_ends}
 
 -- ---- strips
 module _ (s : Strip) (k n : ℕ) where
@@ -265,6 +265,9 @@ module _ {ws ws₂ vs : List ℕ} {f : Fact} (M : MayCut f ws) (x : Kept (strips
 module _ {ws : List ℕ} {f : Fact} (M : MayCut f ws) where
   pub all_lie : AllLie (strips f)
   all_lie = lie f (strips f) (right f M.numbered)
+
+  pub sweep_fits : {o : Option Sweep} {sw : Sweep} → IsSweep f o → o ≡ Some sw → sw.first + sw.count ≤ 256
+  sweep_fits {sw = sw} i e = let its : sw ≡ sweep_of f = sym (ap (λ p. unwrap_or p no_sweep) e) ∙ i.is in rw its (sweep_ends f M.numbered)
 
   pub has_cut : {o p : Option Sweep} {ws₂ vs : List ℕ} → IsSweep f o → Kept (strips f) ws ws₂ → o ≡ p → Swept (unwrap_or p no_sweep) (unwrap_or p no_sweep).count ws₂ vs → Cut f ws vs
   has_cut {ws₂ = ws₂} {vs} i x e z = record { words = cut_words M x (subst (λ s. Swept s s.count ws₂ vs) (sym (ap (λ p. unwrap_or p no_sweep) e) ∙ i.is) z) }

@@ -95,3 +95,17 @@ module _ {i s u : ℕ} (li : i < 16) (ls : s < 16) where
       ),
     ),
   )
+
+-- a sweep ends with the sessions
+pub sweep_ends : (f : Fact) → Below16 (numbers f) → (sweep_of f).first + (sweep_of f).count ≤ 256
+sweep_ends (enrolled i) h = omega arith
+sweep_ends (trusts i j) h = omega arith
+sweep_ends (user i u) h = omega arith
+sweep_ends (role i r) h = omega arith
+sweep_ends (permission i p) h = omega arith
+sweep_ends (public i r) h = omega arith
+sweep_ends (holds i u r) h = omega arith
+sweep_ends (granted j p i r) h = omega arith
+sweep_ends (attached j q i r) h = omega arith
+sweep_ends (opened i s u) h = omega arith
+sweep_ends (active i s u r) h = omega arith
