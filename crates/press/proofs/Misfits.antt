@@ -1,14 +1,28 @@
 -- The test for error 17 says its causes.
-use Rattle.std.proofs.Common.{sym, ◌≡◌, refl, ap, ◌⊎◌, inl, inr, ◌≢◌, Bool, true, false, not, List, [], ◌∷◌, ℕ, ◌<◌, ◌≤◌, arith, eqb, ltb, length, get_or, eq-eqb, ne_eqb, lt-ltb, ltb-true}
+use Rattle.std.proofs.Common.{sym, ◌≡◌, refl, ap, ◌⊎◌, inl, inr, ◌≢◌, ◌∙◌, Bool, true, false, not, ◌||◌, List, [], ◌∷◌, ℕ, zero, suc, ◌<◌, ◌≤◌, arith, eqb, ltb, length, take, get_or, eq-eqb, ne_eqb, lt-ltb, ltb-true}
 use native.Mathlib.Decide.{ℕ_discrete}
+use native.Mathlib.Numerals.{add-one}
 use lib.ListN.{get_or-eq_default}
 use borrow.Author.Tests.{not-true}
 use Rattle.bits.proofs.Booleans.{clash, or_left, or_right, below_or_not}
-use Rattle.std.proofs.lemmas.List.Folds.{Any-from_list_any, list_any_at}
-use Rattle.std.proofs.lemmas.List.{get_or_read_under}
+use Rattle.std.specs.List.{fold, list_any}
+use Rattle.std.proofs.lemmas.List.Folds.{Any-from_list_any, list_any_at, list_any_more}
+use Rattle.std.proofs.lemmas.List.Sums.{fold_more}
+use Rattle.std.proofs.lemmas.List.{get_or_read_under, take_all}
 use Rattle.press.specs.Acted.{some_above, some_of, misfit}
 use Rattle.press.specs.Errors.{Misfit, owners_not_32, stages_not_32, press_above_31, action_above_4, owner_above_15, stage_above_3}
 use Rattle.press.specs.Laws.{Fits}
+
+-- what passes is found by looking at each
+pub fold_any : (p : ℕ → Bool) (l : List ℕ) → fold (λ a b. a || p b) false l ≡ list_any p l
+fold_any p l = ap (fold (λ a b. a || p b) false) (sym all) ∙ front (length l) (omega arith) ∙ ap (list_any p) all
+  where
+    all : take (length l) l ≡ l
+    all = take_all (length l) l (omega arith)
+
+    front : (k : ℕ) → k ≤ length l → fold (λ a b. a || p b) false (take k l) ≡ list_any p (take k l)
+    front zero h = refl
+    front (suc k) h = rw (← add-one k, fold_more (λ a b. a || p b) false l k 0 (omega arith), list_any_more p l k 0 (omega arith), front k (omega arith))
 
 pub above_elim : (n : ℕ) (l : List ℕ) → some_above n l ≡ true → (k : ℕ) × (n < get_or l k 0)
 above_elim n l h =

@@ -32,11 +32,11 @@ impl From<Error> for u16 {
     }
 }
 
-// Whether some byte is above a limit.
+// Whether some byte is above a limit. Each is looked at, since a loop that stops early branches at each of them.
 fn some_above(limit: u8, bytes: &[u8]) -> bool
     ensures { result ≡ some_above limit bytes.now }
 {
-    bytes.iter().any(|&b| limit < b)
+    bytes.iter().fold(false, |found, &b| found | (limit < b))
 }
 
 // Error 17, but for an action that isn't one: lists that aren't the owners and stages of 32 presses, a press that isn't there.
