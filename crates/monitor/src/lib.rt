@@ -51,7 +51,9 @@ fn initial(k: usize) -> u16
     requires { k < state_length }
     ensures { result ≡ initial (cell (word_at k)) }
 {
-    if k >= layout::SESSIONS_AT && k < layout::PUBLIC_AT && (k - layout::SESSIONS_AT) % 2 == 0 {
+    if k < layout::SESSIONS_AT || k >= layout::PUBLIC_AT {
+        0
+    } else if (k - layout::SESSIONS_AT) % 2 == 0 {
         layout::NOBODY
     } else {
         0
